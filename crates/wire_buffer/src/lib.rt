@@ -51,10 +51,16 @@ pub fn flag(d: &[u8], start: usize, offset: usize, weight: u8) -> bool
 pub fn read_buffer(d: &[u8], c: Cursor) -> Option<Inside>
     ensures { result ≡ buffer_at d.now c.at }
 {
-    let (flags, c) = c.fixed(d, wire_numbers::FLAGS, true, 2)?;
-    let (chain, c) = c.any_or_none(d, wire_numbers::CREDENTIAL, true)?;
-    let (token, c) = c.any_or_none(d, wire_numbers::TOKEN, true)?;
-    let (classifier, c) = c.array_or_none(
+    let Some((flags, c)) = c.fixed(d, wire_numbers::FLAGS, true, 2) else {
+        return None;
+    };
+    let Some((chain, c)) = c.any_or_none(d, wire_numbers::CREDENTIAL, true) else {
+        return None;
+    };
+    let Some((token, c)) = c.any_or_none(d, wire_numbers::TOKEN, true) else {
+        return None;
+    };
+    let Some((classifier, c)) = c.array_or_none(
         d,
         wire_numbers::CODES,
         true,
@@ -62,10 +68,18 @@ pub fn read_buffer(d: &[u8], c: Cursor) -> Option<Inside>
         wire_numbers::CODES_EACH,
         0,
         wire_numbers::CODES_MOST,
-    )?;
-    let (payload, c) = c.any_or_none(d, wire_numbers::PAYLOAD, true)?;
-    let (entry, c) = c.entry_or_none(d)?;
-    let (cpa, c) = c.any_or_none(d, wire_numbers::CPA, false)?;
+    ) else {
+        return None;
+    };
+    let Some((payload, c)) = c.any_or_none(d, wire_numbers::PAYLOAD, true) else {
+        return None;
+    };
+    let Some((entry, c)) = c.entry_or_none(d) else {
+        return None;
+    };
+    let Some((cpa, c)) = c.any_or_none(d, wire_numbers::CPA, false) else {
+        return None;
+    };
     if c.at != d.len() {
         return None;
     }

@@ -25,12 +25,22 @@ pub fn read_flood(d: &[u8]) -> Option<Flood>
     ensures { or_six M.Flood result ≡ incoming_of d.now (found_of 4 (fields_as 4 flood_kinds d.now)) }
 {
     let c = Cursor { at: 12 };
-    let (controls, c) = c.fixed(d, wire_numbers::FLOOD_CONTROLS, true, 3)?;
-    let (validate, c) = c.fixed(d, wire_numbers::VALIDATE, false, 32)?;
-    let (token, c) = c.any_or_none(d, wire_numbers::TOKEN, true)?;
-    let (revoke, c) = c.any_or_none(d, wire_numbers::REVOKED, true)?;
-    let (entry, c) = c.entry_or_none(d)?;
-    let (reached, c) = c.array_or_none(
+    let Some((controls, c)) = c.fixed(d, wire_numbers::FLOOD_CONTROLS, true, 3) else {
+        return None;
+    };
+    let Some((validate, c)) = c.fixed(d, wire_numbers::VALIDATE, false, 32) else {
+        return None;
+    };
+    let Some((token, c)) = c.any_or_none(d, wire_numbers::TOKEN, true) else {
+        return None;
+    };
+    let Some((revoke, c)) = c.any_or_none(d, wire_numbers::REVOKED, true) else {
+        return None;
+    };
+    let Some((entry, c)) = c.entry_or_none(d) else {
+        return None;
+    };
+    let Some((reached, c)) = c.array_or_none(
         d,
         wire_numbers::ENDPOINTS,
         false,
@@ -38,7 +48,9 @@ pub fn read_flood(d: &[u8]) -> Option<Flood>
         wire_numbers::ENDPOINTS_EACH,
         wire_numbers::ENDPOINTS_LEAST,
         wire_numbers::ENDPOINTS_MOST,
-    )?;
+    ) else {
+        return None;
+    };
     if c.at != d.len() {
         return None;
     }

@@ -17,9 +17,15 @@ pub fn read_lookup(d: &[u8]) -> Option<Lookup>
     ensures { or_six M.Lookup result ≡ incoming_of d.now (found_of 11 (fields_as 11 lookup_kinds d.now)) }
 {
     let c = Cursor { at: 12 };
-    let (controls, c) = c.controls(d)?;
-    let (target, c) = c.fixed(d, wire_numbers::TARGET, false, 32)?;
-    let (validate, c) = c.fixed(d, wire_numbers::VALIDATE, false, 32)?;
+    let Some((controls, c)) = c.controls(d) else {
+        return None;
+    };
+    let Some((target, c)) = c.fixed(d, wire_numbers::TARGET, false, 32) else {
+        return None;
+    };
+    let Some((validate, c)) = c.fixed(d, wire_numbers::VALIDATE, false, 32) else {
+        return None;
+    };
     lookup_behind(d, controls.start, target.start, validate.start, c)
 }
 
@@ -36,18 +42,28 @@ fn lookup_behind(
     ensures { or_six M.Lookup result ≡ lookup_behind d.now controls target validate
         (places_at (drop 3 lookup_kinds) d.now c.at) }
 {
-    let (entry, c) = c.entry_or_none(d)?;
-    let (path, c) = c.array(
+    let Some((entry, c)) = c.entry_or_none(d) else {
+        return None;
+    };
+    let Some((path, c)) = c.array(
         d,
         wire_numbers::ENDPOINTS,
         wire_numbers::ENDPOINT,
         wire_numbers::ENDPOINTS_EACH,
         wire_numbers::ENDPOINTS_LEAST,
         wire_numbers::ENDPOINTS_MOST,
-    )?;
-    let (credential, c) = c.any_or_none(d, wire_numbers::CREDENTIAL, false)?;
-    let (signature, c) = c.any_or_none(d, wire_numbers::SIGNATURE, false)?;
-    let (key, c) = c.any_or_none(d, wire_numbers::KEY_ID, false)?;
+    ) else {
+        return None;
+    };
+    let Some((credential, c)) = c.any_or_none(d, wire_numbers::CREDENTIAL, false) else {
+        return None;
+    };
+    let Some((signature, c)) = c.any_or_none(d, wire_numbers::SIGNATURE, false) else {
+        return None;
+    };
+    let Some((key, c)) = c.any_or_none(d, wire_numbers::KEY_ID, false) else {
+        return None;
+    };
     if c.at != d.len() {
         return None;
     }

@@ -6,94 +6,85 @@ use Rattle.wire_fields.specs.Reading.{places_at}
 use Rattle.wire_buffer.specs.Buffer.{buffer_at}
 use Rattle.wire_buffer.proofs.read_buffer.Goals as goal
 
-pub returns-in_err-flags : goal.returns-in_err-flags
+pub returns-in_default : goal.returns-in_default
 unfolding buffer_at places_at
-returns-in_err-flags c =
+returns-in_default c =
+    rw (sym c.fixed.ensures ∙ c.in_default.is)
+
+pub returns-in_default-any_or_none : goal.returns-in_default-any_or_none
+unfolding buffer_at places_at
+returns-in_default-any_or_none c =
     rw (
-      c.from_residual.ensures,
-      sym c.fixed.ensures ∙ c.in_err-flags.was,
+      sym c.fixed.ensures ∙ c.in-Some.is,
+      sym c.any_or_none.ensures ∙ c.in_default-any_or_none.is,
     )
 
-pub returns-in_err-chain : goal.returns-in_err-chain
+pub returns-in_default-any_or_none-2 : goal.returns-in_default-any_or_none-2
 unfolding buffer_at places_at
-returns-in_err-chain c =
+returns-in_default-any_or_none-2 c =
     rw (
-      c.from_residual-in_err-chain.ensures,
-      sym c.fixed.ensures ∙ c.in_ok-flags.was,
-      sym c.any_or_none.ensures ∙ c.in_err-chain.was,
+      sym c.fixed.ensures ∙ c.in-Some.is,
+      sym c.any_or_none.ensures ∙ c.in-Some-any_or_none.is,
+      sym c.any_or_none-2.ensures ∙ c.in_default-any_or_none-2.is,
     )
 
-pub returns-in_err-token : goal.returns-in_err-token
+pub returns-in_default-array_or_none : goal.returns-in_default-array_or_none
 unfolding buffer_at places_at
-returns-in_err-token c =
+returns-in_default-array_or_none c =
     rw (
-      c.from_residual-in_err-token.ensures,
-      sym c.fixed.ensures ∙ c.in_ok-flags.was,
-      sym c.any_or_none.ensures ∙ c.in_ok-chain.was,
-      sym c.any_or_none-2.ensures ∙ c.in_err-token.was,
+      sym c.fixed.ensures ∙ c.in-Some.is,
+      sym c.any_or_none.ensures ∙ c.in-Some-any_or_none.is,
+      sym c.any_or_none-2.ensures ∙ c.in-Some-any_or_none-2.is,
+      sym c.array_or_none.ensures ∙ c.in_default-array_or_none.is,
     )
 
-pub returns-in_err-classifier : goal.returns-in_err-classifier
+pub returns-in_default-any_or_none-3 : goal.returns-in_default-any_or_none-3
 unfolding buffer_at places_at
-returns-in_err-classifier c =
+returns-in_default-any_or_none-3 c =
     rw (
-      c.from_residual-in_err-classifier.ensures,
-      sym c.fixed.ensures ∙ c.in_ok-flags.was,
-      sym c.any_or_none.ensures ∙ c.in_ok-chain.was,
-      sym c.any_or_none-2.ensures ∙ c.in_ok-token.was,
-      sym c.array_or_none.ensures ∙ c.in_err-classifier.was,
+      sym c.fixed.ensures ∙ c.in-Some.is,
+      sym c.any_or_none.ensures ∙ c.in-Some-any_or_none.is,
+      sym c.any_or_none-2.ensures ∙ c.in-Some-any_or_none-2.is,
+      sym c.array_or_none.ensures ∙ c.in-Some-array_or_none.is,
+      sym c.any_or_none-3.ensures ∙ c.in_default-any_or_none-3.is,
     )
 
-pub returns-in_err-payload : goal.returns-in_err-payload
+pub returns-in_default-entry_or_none : goal.returns-in_default-entry_or_none
 unfolding buffer_at places_at
-returns-in_err-payload c =
+returns-in_default-entry_or_none c =
     rw (
-      c.from_residual-in_err-payload.ensures,
-      sym c.fixed.ensures ∙ c.in_ok-flags.was,
-      sym c.any_or_none.ensures ∙ c.in_ok-chain.was,
-      sym c.any_or_none-2.ensures ∙ c.in_ok-token.was,
-      sym c.array_or_none.ensures ∙ c.in_ok-classifier.was,
-      sym c.any_or_none-3.ensures ∙ c.in_err-payload.was,
+      sym c.fixed.ensures ∙ c.in-Some.is,
+      sym c.any_or_none.ensures ∙ c.in-Some-any_or_none.is,
+      sym c.any_or_none-2.ensures ∙ c.in-Some-any_or_none-2.is,
+      sym c.array_or_none.ensures ∙ c.in-Some-array_or_none.is,
+      sym c.any_or_none-3.ensures ∙ c.in-Some-any_or_none-3.is,
+      sym c.entry_or_none.ensures ∙ c.in_default-entry_or_none.is,
     )
 
-pub returns-in_err-entry : goal.returns-in_err-entry
+pub returns-in_default-any_or_none-4 : goal.returns-in_default-any_or_none-4
 unfolding buffer_at places_at
-returns-in_err-entry c =
+returns-in_default-any_or_none-4 c =
     rw (
-      c.from_residual-in_err-entry.ensures,
-      sym c.fixed.ensures ∙ c.in_ok-flags.was,
-      sym c.any_or_none.ensures ∙ c.in_ok-chain.was,
-      sym c.any_or_none-2.ensures ∙ c.in_ok-token.was,
-      sym c.array_or_none.ensures ∙ c.in_ok-classifier.was,
-      sym c.any_or_none-3.ensures ∙ c.in_ok-payload.was,
-      sym c.entry_or_none.ensures ∙ c.in_err-entry.was,
-    )
-
-pub returns-in_err-cpa : goal.returns-in_err-cpa
-unfolding buffer_at places_at
-returns-in_err-cpa c =
-    rw (
-      c.from_residual-in_err-cpa.ensures,
-      sym c.fixed.ensures ∙ c.in_ok-flags.was,
-      sym c.any_or_none.ensures ∙ c.in_ok-chain.was,
-      sym c.any_or_none-2.ensures ∙ c.in_ok-token.was,
-      sym c.array_or_none.ensures ∙ c.in_ok-classifier.was,
-      sym c.any_or_none-3.ensures ∙ c.in_ok-payload.was,
-      sym c.entry_or_none.ensures ∙ c.in_ok-entry.was,
-      sym c.any_or_none-4.ensures ∙ c.in_err-cpa.was,
+      sym c.fixed.ensures ∙ c.in-Some.is,
+      sym c.any_or_none.ensures ∙ c.in-Some-any_or_none.is,
+      sym c.any_or_none-2.ensures ∙ c.in-Some-any_or_none-2.is,
+      sym c.array_or_none.ensures ∙ c.in-Some-array_or_none.is,
+      sym c.any_or_none-3.ensures ∙ c.in-Some-any_or_none-3.is,
+      sym c.entry_or_none.ensures ∙ c.in-Some-entry_or_none.is,
+      sym c.any_or_none-4.ensures ∙ c.in_default-any_or_none-4.is,
     )
 
 pub returns-then-c-d : goal.returns-then-c-d
 unfolding buffer_at places_at
 returns-then-c-d c =
     rw (
-      sym c.fixed.ensures ∙ c.in_ok-flags.was,
-      sym c.any_or_none.ensures ∙ c.in_ok-chain.was,
-      sym c.any_or_none-2.ensures ∙ c.in_ok-token.was,
-      sym c.array_or_none.ensures ∙ c.in_ok-classifier.was,
-      sym c.any_or_none-3.ensures ∙ c.in_ok-payload.was,
-      sym c.entry_or_none.ensures ∙ c.in_ok-entry.was,
-      sym c.any_or_none-4.ensures ∙ c.in_ok-cpa.was,
+      sym c.fixed.ensures ∙ c.in-Some.is,
+      sym c.any_or_none.ensures ∙ c.in-Some-any_or_none.is,
+      sym c.any_or_none-2.ensures ∙ c.in-Some-any_or_none-2.is,
+      sym c.array_or_none.ensures ∙ c.in-Some-array_or_none.is,
+      sym c.any_or_none-3.ensures ∙ c.in-Some-any_or_none-3.is,
+      sym c.entry_or_none.ensures ∙ c.in-Some-entry_or_none.is,
+      sym c.any_or_none-4.ensures ∙ c.in-Some-any_or_none-4.is,
       ne_eqb _ _ c.if-c-d.true,
     )
 
@@ -101,13 +92,13 @@ pub returns : goal.returns
 unfolding buffer_at places_at
 returns c =
     rw (
-      sym c.fixed.ensures ∙ c.in_ok-flags.was,
-      sym c.any_or_none.ensures ∙ c.in_ok-chain.was,
-      sym c.any_or_none-2.ensures ∙ c.in_ok-token.was,
-      sym c.array_or_none.ensures ∙ c.in_ok-classifier.was,
-      sym c.any_or_none-3.ensures ∙ c.in_ok-payload.was,
-      sym c.entry_or_none.ensures ∙ c.in_ok-entry.was,
-      sym c.any_or_none-4.ensures ∙ c.in_ok-cpa.was,
+      sym c.fixed.ensures ∙ c.in-Some.is,
+      sym c.any_or_none.ensures ∙ c.in-Some-any_or_none.is,
+      sym c.any_or_none-2.ensures ∙ c.in-Some-any_or_none-2.is,
+      sym c.array_or_none.ensures ∙ c.in-Some-array_or_none.is,
+      sym c.any_or_none-3.ensures ∙ c.in-Some-any_or_none-3.is,
+      sym c.entry_or_none.ensures ∙ c.in-Some-entry_or_none.is,
+      sym c.any_or_none-4.ensures ∙ c.in-Some-any_or_none-4.is,
       eq-eqb _ _ c.if-c-d.false,
       c.flag.ensures,
       c.flag-2.ensures,

@@ -8,79 +8,71 @@ use Rattle.wire_read.specs.Answers.{incoming_of}
 use Rattle.wire_read.proofs.ReaderLaws.{present_value}
 use Rattle.wire_read.proofs.flood.read_flood.Goals as goal
 
-pub returns-in_err-controls : goal.returns-in_err-controls
+pub returns-in_default : goal.returns-in_default
 unfolding incoming_of fields_as joined_fields sized places_at
-returns-in_err-controls c =
+returns-in_default c =
+    rw (sym c.fixed.ensures ∙ c.in_default.is)
+
+pub returns-in_default-fixed : goal.returns-in_default-fixed
+unfolding incoming_of fields_as joined_fields sized places_at
+returns-in_default-fixed c =
     rw (
-      c.from_residual.ensures,
-      sym c.fixed.ensures ∙ c.in_err-controls.was,
+      sym c.fixed.ensures ∙ c.in-Some.is,
+      sym c.fixed-2.ensures ∙ c.in_default-fixed.is,
     )
 
-pub returns-in_err-validate : goal.returns-in_err-validate
+pub returns-in_default-any_or_none : goal.returns-in_default-any_or_none
 unfolding incoming_of fields_as joined_fields sized places_at
-returns-in_err-validate c =
+returns-in_default-any_or_none c =
     rw (
-      c.from_residual-in_err-validate.ensures,
-      sym c.fixed.ensures ∙ c.in_ok-controls.was,
-      sym c.fixed-2.ensures ∙ c.in_err-validate.was,
+      sym c.fixed.ensures ∙ c.in-Some.is,
+      sym c.fixed-2.ensures ∙ c.in-Some-fixed.is,
+      sym c.any_or_none.ensures ∙ c.in_default-any_or_none.is,
     )
 
-pub returns-in_err-token : goal.returns-in_err-token
+pub returns-in_default-any_or_none-2 : goal.returns-in_default-any_or_none-2
 unfolding incoming_of fields_as joined_fields sized places_at
-returns-in_err-token c =
+returns-in_default-any_or_none-2 c =
     rw (
-      c.from_residual-in_err-token.ensures,
-      sym c.fixed.ensures ∙ c.in_ok-controls.was,
-      sym c.fixed-2.ensures ∙ c.in_ok-validate.was,
-      sym c.any_or_none.ensures ∙ c.in_err-token.was,
+      sym c.fixed.ensures ∙ c.in-Some.is,
+      sym c.fixed-2.ensures ∙ c.in-Some-fixed.is,
+      sym c.any_or_none.ensures ∙ c.in-Some-any_or_none.is,
+      sym c.any_or_none-2.ensures ∙ c.in_default-any_or_none-2.is,
     )
 
-pub returns-in_err-revoke : goal.returns-in_err-revoke
+pub returns-in_default-entry_or_none : goal.returns-in_default-entry_or_none
 unfolding incoming_of fields_as joined_fields sized places_at
-returns-in_err-revoke c =
+returns-in_default-entry_or_none c =
     rw (
-      c.from_residual-in_err-revoke.ensures,
-      sym c.fixed.ensures ∙ c.in_ok-controls.was,
-      sym c.fixed-2.ensures ∙ c.in_ok-validate.was,
-      sym c.any_or_none.ensures ∙ c.in_ok-token.was,
-      sym c.any_or_none-2.ensures ∙ c.in_err-revoke.was,
+      sym c.fixed.ensures ∙ c.in-Some.is,
+      sym c.fixed-2.ensures ∙ c.in-Some-fixed.is,
+      sym c.any_or_none.ensures ∙ c.in-Some-any_or_none.is,
+      sym c.any_or_none-2.ensures ∙ c.in-Some-any_or_none-2.is,
+      sym c.entry_or_none.ensures ∙ c.in_default-entry_or_none.is,
     )
 
-pub returns-in_err-entry : goal.returns-in_err-entry
+pub returns-in_default-array_or_none : goal.returns-in_default-array_or_none
 unfolding incoming_of fields_as joined_fields sized places_at
-returns-in_err-entry c =
+returns-in_default-array_or_none c =
     rw (
-      c.from_residual-in_err-entry.ensures,
-      sym c.fixed.ensures ∙ c.in_ok-controls.was,
-      sym c.fixed-2.ensures ∙ c.in_ok-validate.was,
-      sym c.any_or_none.ensures ∙ c.in_ok-token.was,
-      sym c.any_or_none-2.ensures ∙ c.in_ok-revoke.was,
-      sym c.entry_or_none.ensures ∙ c.in_err-entry.was,
-    )
-
-pub returns-in_err-reached : goal.returns-in_err-reached
-unfolding incoming_of fields_as joined_fields sized places_at
-returns-in_err-reached c =
-    rw (
-      c.from_residual-in_err-reached.ensures,
-      sym c.fixed.ensures ∙ c.in_ok-controls.was,
-      sym c.fixed-2.ensures ∙ c.in_ok-validate.was,
-      sym c.any_or_none.ensures ∙ c.in_ok-token.was,
-      sym c.any_or_none-2.ensures ∙ c.in_ok-revoke.was,
-      sym c.entry_or_none.ensures ∙ c.in_ok-entry.was,
-      sym c.array_or_none.ensures ∙ c.in_err-reached.was,
+      sym c.fixed.ensures ∙ c.in-Some.is,
+      sym c.fixed-2.ensures ∙ c.in-Some-fixed.is,
+      sym c.any_or_none.ensures ∙ c.in-Some-any_or_none.is,
+      sym c.any_or_none-2.ensures ∙ c.in-Some-any_or_none-2.is,
+      sym c.entry_or_none.ensures ∙ c.in-Some-entry_or_none.is,
+      sym c.array_or_none.ensures ∙ c.in_default-array_or_none.is,
     )
 
 pub returns-then-c-d : goal.returns-then-c-d
 unfolding incoming_of fields_as joined_fields sized places_at
 returns-then-c-d c =
     rw (
-      sym c.fixed.ensures ∙ c.in_ok-controls.was,
-      sym c.fixed-2.ensures ∙ c.in_ok-validate.was,
-      sym c.any_or_none.ensures ∙ c.in_ok-token.was,
-      sym c.any_or_none-2.ensures ∙ c.in_ok-revoke.was,
-      sym c.entry_or_none.ensures ∙ c.in_ok-entry.was,
-      sym c.array_or_none.ensures ∙ c.in_ok-reached.was,
+      sym c.fixed.ensures ∙ c.in-Some.is,
+      sym c.fixed-2.ensures ∙ c.in-Some-fixed.is,
+      sym c.any_or_none.ensures ∙ c.in-Some-any_or_none.is,
+      sym c.any_or_none-2.ensures ∙ c.in-Some-any_or_none-2.is,
+      sym c.entry_or_none.ensures ∙ c.in-Some-entry_or_none.is,
+      sym c.array_or_none.ensures ∙ c.in-Some-array_or_none.is,
       ne_eqb _ _ c.if-c-d.true,
     )
 
@@ -88,12 +80,12 @@ pub returns-then-not-just_one : goal.returns-then-not-just_one
 unfolding incoming_of fields_as joined_fields sized places_at
 returns-then-not-just_one c =
     rw (
-      sym c.fixed.ensures ∙ c.in_ok-controls.was,
-      sym c.fixed-2.ensures ∙ c.in_ok-validate.was,
-      sym c.any_or_none.ensures ∙ c.in_ok-token.was,
-      sym c.any_or_none-2.ensures ∙ c.in_ok-revoke.was,
-      sym c.entry_or_none.ensures ∙ c.in_ok-entry.was,
-      sym c.array_or_none.ensures ∙ c.in_ok-reached.was,
+      sym c.fixed.ensures ∙ c.in-Some.is,
+      sym c.fixed-2.ensures ∙ c.in-Some-fixed.is,
+      sym c.any_or_none.ensures ∙ c.in-Some-any_or_none.is,
+      sym c.any_or_none-2.ensures ∙ c.in-Some-any_or_none-2.is,
+      sym c.entry_or_none.ensures ∙ c.in-Some-entry_or_none.is,
+      sym c.array_or_none.ensures ∙ c.in-Some-array_or_none.is,
       eq-eqb _ _ c.if-c-d.false,
       present_value,
       present_value,
@@ -108,12 +100,12 @@ pub returns : goal.returns
 unfolding incoming_of fields_as joined_fields sized places_at
 returns c =
     rw (
-      sym c.fixed.ensures ∙ c.in_ok-controls.was,
-      sym c.fixed-2.ensures ∙ c.in_ok-validate.was,
-      sym c.any_or_none.ensures ∙ c.in_ok-token.was,
-      sym c.any_or_none-2.ensures ∙ c.in_ok-revoke.was,
-      sym c.entry_or_none.ensures ∙ c.in_ok-entry.was,
-      sym c.array_or_none.ensures ∙ c.in_ok-reached.was,
+      sym c.fixed.ensures ∙ c.in-Some.is,
+      sym c.fixed-2.ensures ∙ c.in-Some-fixed.is,
+      sym c.any_or_none.ensures ∙ c.in-Some-any_or_none.is,
+      sym c.any_or_none-2.ensures ∙ c.in-Some-any_or_none-2.is,
+      sym c.entry_or_none.ensures ∙ c.in-Some-entry_or_none.is,
+      sym c.array_or_none.ensures ∙ c.in-Some-array_or_none.is,
       eq-eqb _ _ c.if-c-d.false,
       present_value,
       present_value,

@@ -5,65 +5,58 @@ use mathlib.Core.Path.{sym, ◌∙◌}
 use Rattle.wire_fields.specs.Reading.{places_at}
 use Rattle.wire_read.proofs.lookup.lookup_behind.Goals as goal
 
-pub returns-in_err-entry : goal.returns-in_err-entry
+pub returns-in_default : goal.returns-in_default
 unfolding places_at
-returns-in_err-entry c =
+returns-in_default c =
+    rw (sym c.entry_or_none.ensures ∙ c.in_default.is)
+
+pub returns-in_default-array : goal.returns-in_default-array
+unfolding places_at
+returns-in_default-array c =
     rw (
-      c.from_residual.ensures,
-      sym c.entry_or_none.ensures ∙ c.in_err-entry.was,
+      sym c.entry_or_none.ensures ∙ c.in-Some.is,
+      sym c.array.ensures ∙ c.in_default-array.is,
     )
 
-pub returns-in_err-path : goal.returns-in_err-path
+pub returns-in_default-any_or_none : goal.returns-in_default-any_or_none
 unfolding places_at
-returns-in_err-path c =
+returns-in_default-any_or_none c =
     rw (
-      c.from_residual-in_err-path.ensures,
-      sym c.entry_or_none.ensures ∙ c.in_ok-entry.was,
-      sym c.array.ensures ∙ c.in_err-path.was,
+      sym c.entry_or_none.ensures ∙ c.in-Some.is,
+      sym c.array.ensures ∙ c.in-Some-array.is,
+      sym c.any_or_none.ensures ∙ c.in_default-any_or_none.is,
     )
 
-pub returns-in_err-credential : goal.returns-in_err-credential
+pub returns-in_default-any_or_none-2 : goal.returns-in_default-any_or_none-2
 unfolding places_at
-returns-in_err-credential c =
+returns-in_default-any_or_none-2 c =
     rw (
-      c.from_residual-in_err-credential.ensures,
-      sym c.entry_or_none.ensures ∙ c.in_ok-entry.was,
-      sym c.array.ensures ∙ c.in_ok-path.was,
-      sym c.any_or_none.ensures ∙ c.in_err-credential.was,
+      sym c.entry_or_none.ensures ∙ c.in-Some.is,
+      sym c.array.ensures ∙ c.in-Some-array.is,
+      sym c.any_or_none.ensures ∙ c.in-Some-any_or_none.is,
+      sym c.any_or_none-2.ensures ∙ c.in_default-any_or_none-2.is,
     )
 
-pub returns-in_err-signature : goal.returns-in_err-signature
+pub returns-in_default-any_or_none-3 : goal.returns-in_default-any_or_none-3
 unfolding places_at
-returns-in_err-signature c =
+returns-in_default-any_or_none-3 c =
     rw (
-      c.from_residual-in_err-signature.ensures,
-      sym c.entry_or_none.ensures ∙ c.in_ok-entry.was,
-      sym c.array.ensures ∙ c.in_ok-path.was,
-      sym c.any_or_none.ensures ∙ c.in_ok-credential.was,
-      sym c.any_or_none-2.ensures ∙ c.in_err-signature.was,
-    )
-
-pub returns-in_err-key : goal.returns-in_err-key
-unfolding places_at
-returns-in_err-key c =
-    rw (
-      c.from_residual-in_err-key.ensures,
-      sym c.entry_or_none.ensures ∙ c.in_ok-entry.was,
-      sym c.array.ensures ∙ c.in_ok-path.was,
-      sym c.any_or_none.ensures ∙ c.in_ok-credential.was,
-      sym c.any_or_none-2.ensures ∙ c.in_ok-signature.was,
-      sym c.any_or_none-3.ensures ∙ c.in_err-key.was,
+      sym c.entry_or_none.ensures ∙ c.in-Some.is,
+      sym c.array.ensures ∙ c.in-Some-array.is,
+      sym c.any_or_none.ensures ∙ c.in-Some-any_or_none.is,
+      sym c.any_or_none-2.ensures ∙ c.in-Some-any_or_none-2.is,
+      sym c.any_or_none-3.ensures ∙ c.in_default-any_or_none-3.is,
     )
 
 pub returns-then-c-d : goal.returns-then-c-d
 unfolding places_at
 returns-then-c-d c =
     rw (
-      sym c.entry_or_none.ensures ∙ c.in_ok-entry.was,
-      sym c.array.ensures ∙ c.in_ok-path.was,
-      sym c.any_or_none.ensures ∙ c.in_ok-credential.was,
-      sym c.any_or_none-2.ensures ∙ c.in_ok-signature.was,
-      sym c.any_or_none-3.ensures ∙ c.in_ok-key.was,
+      sym c.entry_or_none.ensures ∙ c.in-Some.is,
+      sym c.array.ensures ∙ c.in-Some-array.is,
+      sym c.any_or_none.ensures ∙ c.in-Some-any_or_none.is,
+      sym c.any_or_none-2.ensures ∙ c.in-Some-any_or_none-2.is,
+      sym c.any_or_none-3.ensures ∙ c.in-Some-any_or_none-3.is,
       ne_eqb _ _ c.if-c-d.true,
     )
 
@@ -75,11 +68,11 @@ pub returns : goal.returns
 unfolding places_at
 returns c =
     rw (
-      sym c.entry_or_none.ensures ∙ c.in_ok-entry.was,
-      sym c.array.ensures ∙ c.in_ok-path.was,
-      sym c.any_or_none.ensures ∙ c.in_ok-credential.was,
-      sym c.any_or_none-2.ensures ∙ c.in_ok-signature.was,
-      sym c.any_or_none-3.ensures ∙ c.in_ok-key.was,
+      sym c.entry_or_none.ensures ∙ c.in-Some.is,
+      sym c.array.ensures ∙ c.in-Some-array.is,
+      sym c.any_or_none.ensures ∙ c.in-Some-any_or_none.is,
+      sym c.any_or_none-2.ensures ∙ c.in-Some-any_or_none-2.is,
+      sym c.any_or_none-3.ensures ∙ c.in-Some-any_or_none-3.is,
       eq-eqb _ _ c.if-c-d.false,
       c.head.ensures,
       c.flag.ensures,

@@ -7,31 +7,26 @@ use Rattle.wire_read.specs.Answers.{incoming_of}
 use Rattle.wire_read.proofs.ReaderLaws.{lookup-front}
 use Rattle.wire_read.proofs.lookup.read_lookup.Goals as goal
 
-pub returns-in_err-controls : goal.returns-in_err-controls
+pub returns-in_default : goal.returns-in_default
 unfolding incoming_of fields_as joined_fields sized places_at
-returns-in_err-controls c =
+returns-in_default c =
+    rw (sym c.controls.ensures ∙ c.in_default.is)
+
+pub returns-in_default-fixed : goal.returns-in_default-fixed
+unfolding incoming_of fields_as joined_fields sized places_at
+returns-in_default-fixed c =
     rw (
-      c.from_residual.ensures,
-      sym c.controls.ensures ∙ c.in_err-controls.was,
+      sym c.controls.ensures ∙ c.in-Some.is,
+      sym c.fixed.ensures ∙ c.in_default-fixed.is,
     )
 
-pub returns-in_err-target : goal.returns-in_err-target
+pub returns-in_default-fixed-2 : goal.returns-in_default-fixed-2
 unfolding incoming_of fields_as joined_fields sized places_at
-returns-in_err-target c =
+returns-in_default-fixed-2 c =
     rw (
-      c.from_residual-in_err-target.ensures,
-      sym c.controls.ensures ∙ c.in_ok-controls.was,
-      sym c.fixed.ensures ∙ c.in_err-target.was,
-    )
-
-pub returns-in_err-validate : goal.returns-in_err-validate
-unfolding incoming_of fields_as joined_fields sized places_at
-returns-in_err-validate c =
-    rw (
-      c.from_residual-in_err-validate.ensures,
-      sym c.controls.ensures ∙ c.in_ok-controls.was,
-      sym c.fixed.ensures ∙ c.in_ok-target.was,
-      sym c.fixed-2.ensures ∙ c.in_err-validate.was,
+      sym c.controls.ensures ∙ c.in-Some.is,
+      sym c.fixed.ensures ∙ c.in-Some-fixed.is,
+      sym c.fixed-2.ensures ∙ c.in_default-fixed-2.is,
     )
 
 pub lookup_behind-requires : goal.lookup_behind-requires
@@ -40,6 +35,6 @@ lookup_behind-requires c = c.requires
 pub returns : goal.returns
 returns c =
     c.lookup_behind.ensures
-    ∙ lookup-front _ _ _ _ _ _ _ (sym c.controls.ensures ∙ c.in_ok-controls.was)
-    (sym c.fixed.ensures ∙ c.in_ok-target.was)
-    (sym c.fixed-2.ensures ∙ c.in_ok-validate.was)
+    ∙ lookup-front _ _ _ _ _ _ _ (sym c.controls.ensures ∙ c.in-Some.is)
+    (sym c.fixed.ensures ∙ c.in-Some-fixed.is)
+    (sym c.fixed-2.ensures ∙ c.in-Some-fixed-2.is)

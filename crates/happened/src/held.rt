@@ -10,11 +10,7 @@ fn is_held(own: &[u8], cache: &[u8], key: &[u8]) -> bool {
 
 // How many are held: a call leaves the cache in form.
 fn count(own: &[u8], cache: &[u8]) -> usize {
-    let formed = cache::memory(own, cache);
-    if let cache::Formed::Good(used) = formed {
-        return used;
-    }
-    0
+    cache::memory(own, cache).unwrap_or(0)
 }
 
 // A record, where it is used and another cache does not hold its key. Answers whether it was told.

@@ -6,7 +6,6 @@ ghost use Rattle.table.specs.Rows.{rows};
 ghost use Rattle.changed.specs.Changes.{changes};
 ghost use Rattle.changes.specs.Listed.{listed, list_or_room, list_call};
 
-
 // The list of what changed between so many records of two caches in form, where the output has room for it. It is counted
 // before a byte is written.
 fn list(

@@ -56,7 +56,7 @@ loop-i-preserved c =
     let l = (loop m).loop-i in
     let n = (start m).args.n in
     elim c.if-closer.branch [
-      then-closer w ↦ rw w.best-is (
+      | then-closer w ↦ rw w.best-is (
         omega arith,
         l.invariant.1 ∙ walk-takes (t m) n (s m) l.best l.i (omega arith) (says m ∙ w.if-closer.true),
         l.invariant.2 ∙ place-takes (t m) n (s m) l.best l.i (omega arith) (says m ∙ w.if-closer.true),

@@ -63,11 +63,7 @@ fn write_other<W: Write>(
     writeln!(out, "{behind}")
 }
 
-fn write_because<W: Write>(
-    out: &mut W,
-    names: Names<'_>,
-    because: Because<'_>,
-) -> io::Result<()> {
+fn write_because<W: Write>(out: &mut W, names: Names<'_>, because: Because<'_>) -> io::Result<()> {
     match because {
         Because::Only => writeln!(out, "                    no other could be named"),
         Because::Target => writeln!(out, "                    its key is the one asked for"),
@@ -84,12 +80,7 @@ fn write_because<W: Write>(
 }
 
 // A line that ends with whose key it is.
-fn write_whose<W: Write>(
-    out: &mut W,
-    names: Names<'_>,
-    word: &str,
-    key: &[u8],
-) -> io::Result<()> {
+fn write_whose<W: Write>(out: &mut W, names: Names<'_>, word: &str, key: &[u8]) -> io::Result<()> {
     write!(out, "                  {word} ")?;
     names.write_whose(out, key)?;
     writeln!(out)
@@ -141,9 +132,7 @@ fn write_reading<W: Write>(out: &mut W, reading: Reading) -> io::Result<()> {
         }
         Reading::Refused(1) => writeln!(out, " refused: of wrong length, or cut short"),
         Reading::Refused(2) => writeln!(out, " refused: of an unknown kind"),
-        Reading::Refused(_) => {
-            writeln!(out, " refused: its depth is not from 0 to 20 metres")
-        }
+        Reading::Refused(_) => { writeln!(out, " refused: its depth is not from 0 to 20 metres") }
     }
 }
 
@@ -184,7 +173,10 @@ impl<W: Write> Tell for Words<'_, W> {
             Fact::Began(row) => write_began(out, row),
             Fact::Then { row, way, same } => write_row(out, row, way, same),
             Fact::Named {
-                key, far, because, ..
+                key,
+                far,
+                because,
+                ..
             } => {
                 write_whose(out, names, "named", key)?;
                 write_far(out, far)?;

@@ -42,13 +42,11 @@ fn pieces_end(rows: [Row; 9], ps: [Piece; 9]) -> usize
     requires { (length rows ≡ 9) × (length ps ≡ 9) }
     ensures { result ≡ min 1233 (end_rows 12 rows ps) }
 {
-    let mut i = 0;
     let mut at = 12;
-    while i < 9 {
+    for i in 0..9 {
         let row = rows[i];
         let p = ps[i];
         at = piece_past(at, row, p);
-        i += 1;
     }
     at
 }
@@ -69,13 +67,11 @@ fn put_pieces(
     ensures { out.new ≡ splice 12 (message_bytes (layout_from 12 (kinds_of_rows rows)
         (contents_of (givens_of (lent_of spelled.now first.now second.now) ps)))) out.old }
 {
-    let mut i = 0;
     let mut at = 12;
-    while i < 9 {
+    for i in 0..9 {
         let row = rows[i];
         let p = ps[i];
         at = put_piece(out, at, row, p, spelled, first, second);
-        i += 1;
     }
 }
 

@@ -45,14 +45,12 @@ pub fn pieces_ok(
     requires { (length rows ≡ 9) × (length ps ≡ 9) }
     ensures { result ≡ rows_ok (lent_of spelled.now first.now second.now) rows ps }
 {
-    let mut i = 0;
-    while i < 9 {
+    for i in 0..9 {
         let row = rows[i];
         let p = ps[i];
         if !piece_ok(row, p, spelled, first, second) {
             return false;
         }
-        i += 1;
     }
     true
 }

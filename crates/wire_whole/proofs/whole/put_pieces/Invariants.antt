@@ -1,8 +1,8 @@
 -- `wire_whole::whole::put_pieces` meets its contract: what is left to put, put, gives what is to be put. Assumes nothing.
-use Prim.Native.Nat.{ℕ, ◌≤◌, ◌-◌}
+use Prim.Native.Nat.{ℕ}
 use mathlib.Core.List.{List}
 use mathlib.Core.Path.{◌≡◌}
-use lib.ListN.{length, drop}
+use lib.ListN.{drop}
 use Rattle.wire_write.specs.Pieces.{Lent, lent_of, AllIn, givens_of, kinds_of_rows, end_rows}
 use Rattle.wire_write.specs.declared.Row.{Row}
 use Rattle.wire_write.specs.declared.Piece.{Piece}
@@ -13,11 +13,6 @@ pub record Left (out₀ : List ℕ) (l : Lent) (rows : List Row) (ps : List Piec
   pub puts : put_all out at (kinds_of_rows (drop i rows)) (givens_of l (drop i ps)) ≡ put_all out₀ 12 (kinds_of_rows rows) (givens_of l ps)
   pub ends : end_rows at (drop i rows) (drop i ps) ≡ end_rows 12 rows ps
   pub inside : AllIn l (drop i ps)
-  pub some : i ≤ 9
-  pub same : length out ≡ length out₀
 
 abbrev pub invariant-loop-i : goal.invariant-loop-i
 invariant-loop-i l = Left l.initial.out (lent_of l.spelled l.first l.second) l.rows l.ps l.out l.i l.at
-
-abbrev pub decreases-loop-i : goal.decreases-loop-i
-decreases-loop-i l = 9 - l.i

@@ -1,20 +1,11 @@
 use Prim.Native.Nat.{◌<◌}
 use native.Mathlib.Omega.{arith}
 use mathlib.Core.List.{[]}
-use mathlib.Core.Path.{◌≡◌, refl, sym, ◌∙◌}
+use mathlib.Core.Path.{◌≡◌, sym, ◌∙◌}
 use lib.ListN.{length, drop, drop_of_length-le}
 use Rattle.wire_write.specs.Pieces.{lent_of}
 use Rattle.wire_write.proofs.PieceLaws.{no_row, no_piece_lem, step_ok}
 use Rattle.wire_write.proofs.check.pieces_ok.Goals as goal
-
-pub loop-i-init : goal.loop-i-init
-loop-i-init c = (refl, omega arith)
-
-pub bounds-rows-i : goal.bounds-rows-i
-bounds-rows-i c = c.loop-i-test.true
-
-pub bounds-ps-i : goal.bounds-ps-i
-bounds-ps-i c = c.loop-i-test.true
 
 pub returns-then-not-piece_ok : goal.returns-then-not-piece_ok
 returns-then-not-piece_ok c =
@@ -24,7 +15,7 @@ returns-then-not-piece_ok c =
     let l = lent_of a.spelled.now a.first.now a.second.now in
     let hr : i < length a.rows = (let z = c.requires.0 in omega arith) in
     let hp : i < length a.ps = (let z = c.requires.1 in omega arith) in
-    rw (sym v.0, step_ok a.rows a.ps i no_row no_piece_lem hr hp l, sym c.piece_ok.ensures ∙ c.if-not-piece_ok.true)
+    rw (sym v, step_ok a.rows a.ps i no_row no_piece_lem hr hp l, sym c.piece_ok.ensures ∙ c.if-not-piece_ok.true)
 
 pub loop-i-preserved : goal.loop-i-preserved
 loop-i-preserved c =
@@ -36,13 +27,12 @@ loop-i-preserved c =
     let hp : i < length a.ps = (let z = c.requires.1 in omega arith) in
     let e = step_ok a.rows a.ps i no_row no_piece_lem hr hp l in
     let f = sym c.piece_ok.ensures ∙ c.if-not-piece_ok.false in
-    (rw f at (sym e) ∙ v.0, omega arith)
+    rw f at (sym e) ∙ v
 
 pub returns : goal.returns
 returns c =
     let a = c.args in
     let v = c.loop-i.invariant in
     let i = c.loop-i.i in
-    let n = v.1 in
     let d : drop i a.rows ≡ [] = drop_of_length-le a.rows {i = i} (let z = c.requires.0 in omega arith) in
-    rw d at v.0
+    rw d at v

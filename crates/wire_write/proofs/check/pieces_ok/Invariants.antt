@@ -1,5 +1,4 @@
 -- `wire_write::check::pieces_ok` meets its contract: what is left to test is the test of the whole. Assumes nothing.
-use Prim.Native.Nat.{◌≤◌, ◌-◌}
 use mathlib.Core.Path.{◌≡◌}
 use lib.ListN.{drop}
 use Rattle.wire_write.specs.Pieces.{lent_of, rows_ok}
@@ -7,7 +6,4 @@ use Rattle.wire_write.proofs.check.pieces_ok.Given as goal
 
 abbrev pub invariant-loop-i : goal.invariant-loop-i
 invariant-loop-i l =
-    (rows_ok (lent_of l.spelled l.first l.second) (drop l.i l.rows) (drop l.i l.ps) ≡ rows_ok (lent_of l.spelled l.first l.second) l.rows l.ps) × (l.i ≤ 9)
-
-abbrev pub decreases-loop-i : goal.decreases-loop-i
-decreases-loop-i l = 9 - l.i
+    rows_ok (lent_of l.spelled l.first l.second) (drop l.i l.rows) (drop l.i l.ps) ≡ rows_ok (lent_of l.spelled l.first l.second) l.rows l.ps

@@ -19,14 +19,12 @@ fn listed_from(total: usize, end: usize, most: usize, runs: Runs) -> usize
     requires { (end + most ≤ total + total) × (total < 1000) × Fits total runs }
     ensures { result ≡ listed_from total end most runs }
 {
-    let mut i = 0;
-    while i < most {
+    for i in 0..most {
         if !listed::is_listed(total, round::wrap(total, end + i), runs) {
             return i;
         }
-        i += 1;
     }
-    i
+    most
 }
 
 // The same from before the place down.
@@ -34,14 +32,12 @@ fn listed_before(total: usize, end: usize, most: usize, runs: Runs) -> usize
     requires { (most ≤ end) × (end ≤ total + total) × (total < 1000) × Fits total runs }
     ensures { result ≡ listed_before total end most runs }
 {
-    let mut i = 0;
-    while i < most {
+    for i in 0..most {
         if !listed::is_listed(total, round::wrap(total, end - (i + 1)), runs) {
             return i;
         }
-        i += 1;
     }
-    i
+    most
 }
 
 // The key of place x among those held and the record, which stands before place `at`.

@@ -61,13 +61,9 @@ pub fn row_of(s: &[u8], n: usize, path: &[u8], target: Key, leave: bool, k: Key)
     ensures { result ≡ place_among (number target) (wantedOf path.now leave (number k)) n s.now }
 {
     let mut best = n;
-    let mut i = 0;
-    while i < n {
-        let taken = is_taken(s, n, best, i, path, target, leave, k);
-        let this = i;
-        i += 1;
-        if taken {
-            best = this;
+    for i in 0..n {
+        if is_taken(s, n, best, i, path, target, leave, k) {
+            best = i;
         }
     }
     best

@@ -1,6 +1,6 @@
 -- `going::listed_before` meets its contract: what the whole walk answers is what the walk from number i on answers. Assumes nothing.
 use mathlib.Core.Path.{◌≡◌}
-use Prim.Native.Nat.{ℕ, ◌+◌, ◌-◌, ◌≤◌}
+use Prim.Native.Nat.{ℕ, ◌+◌, ◌-◌}
 use Rattle.kept.specs.Turned.{wrapped}
 use Rattle.round.specs.Over.{pass_over}
 use Rattle.listed.specs.Runs.{in_runs}
@@ -8,9 +8,5 @@ use Rattle.going.proofs.listed_before.Given as goal
 
 abbrev pub invariant-loop-i : goal.invariant-loop-i
 invariant-loop-i l =
-    (l.i ≤ l.most)
-    × (pass_over (λ (j : ℕ). in_runs l.total (wrapped l.total (l.end - (j + 1))) l.runs) 0 l.most
-    ≡ pass_over (λ (j : ℕ). in_runs l.total (wrapped l.total (l.end - (j + 1))) l.runs) l.i (l.most - l.i))
-
-abbrev pub decreases-loop-i : goal.decreases-loop-i
-decreases-loop-i l = l.most - l.i
+    pass_over (λ (j : ℕ). in_runs l.total (wrapped l.total (l.end - (j + 1))) l.runs) 0 l.most
+    ≡ pass_over (λ (j : ℕ). in_runs l.total (wrapped l.total (l.end - (j + 1))) l.runs) l.i (l.most - l.i)

@@ -22,7 +22,7 @@ looked c =
 pub loop-i-init : goal.loop-i-init
 loop-i-init c =
     let e : c.args.most ≡ c.args.most - 0 = omega arith in
-    (omega arith, ap (pass_over (skips (goal.at.loop-i-init c).Start) 0) e)
+    ap (pass_over (skips (goal.at.loop-i-init c).Start) 0) e
 
 pub overflow_add-end : goal.overflow_add-end
 overflow_add-end c = omega (arith, c.requires)
@@ -38,26 +38,21 @@ returns-then-not-is_listed c =
     let e = (goal.at.returns-then-not-is_listed c).After-is_listed in
     let head = c in
     let s = (goal.at.returns-then-not-is_listed c).Start in
-    sym (head.loop-i.invariant.1
-    ∙ over-here (skips s) s.args.most head.loop-i.i e.loop-i-test.true
+    sym (head.loop-i.invariant
+    ∙ over-here (skips s) s.args.most head.loop-i.i (omega arith)
     (looked e ∙ c.if-not-is_listed.true))
-
-pub overflow_add-i : goal.overflow_add-i
-overflow_add-i c = omega (arith, c.requires)
 
 pub loop-i-preserved : goal.loop-i-preserved
 loop-i-preserved c =
     let e = (goal.at.loop-i-preserved c).After-is_listed in
     let head = c in
-    let s = (goal.at.loop-i-preserved c).Start in (
-      omega arith,
-      head.loop-i.invariant.1
-          ∙ over-on (skips s) s.args.most head.loop-i.i e.loop-i-test.true
-          (looked e ∙ c.if-not-is_listed.false),
-    )
+    let s = (goal.at.loop-i-preserved c).Start in
+    head.loop-i.invariant ∙ over-on (skips s) s.args.most head.loop-i.i (omega arith)
+    (looked e ∙ c.if-not-is_listed.false)
 
 pub returns : goal.returns
 returns c =
-    let head = c in
+    let l = c.loop-i in
     let s = (goal.at.returns c).Start in
-    sym (head.loop-i.invariant.1 ∙ over-end (skips s) s.args.most head.loop-i.i c.loop-i-test.false)
+    let e : c.args.most ≡ l.i = omega arith in
+    e ∙ sym (l.invariant ∙ over-end (skips s) s.args.most l.i (omega arith))

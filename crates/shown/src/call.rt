@@ -1,87 +1,93 @@
 // What a record of the trace was: a datagram received, a FLOOD to send, or a tick. The record has its two length
 // bytes and its kind in front, and is of the length of its kind.
-use shown_words::{message, names, words};
+use gauge_commit::Answer;
+use happened::Walk;
+use shown_state::whose;
+use shown_words::names::Names;
+use shown_words::{message, words};
+use std::io::{self, Read, Write};
+use text::Columns;
 
 // The columns that what it was has in a line.
 const COLUMNS: usize = 68;
 
-// A FLOOD that was refused, with any other number than 0, was not sent.
-fn put_verb(line: &mut [u8], at: usize, answer: u32) -> usize {
-    text::put_row(line, at, b"sent FLOOD \nnot sent: FLOOD ", answer as u64)
-}
+const UNUSED: &str = "a record that cannot be used";
 
-// A record of a FLOOD to send: message ID, neighbour's key, record's key.
-fn put_sent(line: &mut [u8], at: usize, names: &[u8], answer: u32, call: &[u8]) -> usize {
-    if call.len() != 72 {
-        return at;
-    }
-    let a = put_verb(line, at, answer);
-    let b = text::number(line, a, octet::read_u32_le(call, 4) as u64);
-    let c = text::put(line, b, b" to ");
-    let d = names::put_whose(line, c, names, &call[8..40]);
-    let e = text::put(line, d, b" about ");
-    names::put_whose(line, e, names, &call[40..72])
-}
-
-fn put_call(
-    line: &mut [u8],
-    at: usize,
-    names: &[u8],
-    major: u8,
-    answer: u32,
+// A record of a FLOOD to send: message ID, neighbour's key, record's key. One that was refused was not sent.
+fn write_sent<W: Write>(
+    out: &mut W,
+    names: Names<'_>,
+    answer: Answer,
     call: &[u8],
-) -> usize {
-    if trace::is_end(answer) {
-        return text::put(line, at, b"a record that cannot be used");
+) -> io::Result<()> {
+    let Some(call) = call.first_chunk::<72>() else {
+        return Ok(());
+    };
+    let verb = match answer.number {
+        0 => "sent",
+        _ => "not sent:",
+    };
+    let id = u32::from_le_bytes([call[4], call[5], call[6], call[7]]);
+    write!(out, "{verb} FLOOD {id} to ")?;
+    names.write_whose(out, &call[8..40])?;
+    write!(out, " about ")?;
+    names.write_whose(out, &call[40..72])
+}
+
+fn write_what<W: Write>(
+    out: &mut W,
+    names: Names<'_>,
+    major: u8,
+    answer: Answer,
+    call: &[u8],
+) -> io::Result<()> {
+    if trace::is_end(answer.number) {
+        return write!(out, "{UNUSED}");
     }
-    match message::byte(call, 2) {
-        1 => message::put_received(line, at, names, major, call),
-        2 => put_sent(line, at, names, answer, call),
-        3 => text::put(line, at, b"tick"),
-        _ => at,
+    match call.get(2) {
+        Some(1) => message::write_received(out, names, major, call),
+        Some(2) => write_sent(out, names, answer, call),
+        Some(3) => write!(out, "tick"),
+        _ => Ok(()),
     }
 }
 
-pub(crate) fn say_heading() {
-    text::tell(
-        b"Record  Second  What it was                                                           Answer\n",
-    );
+pub(crate) fn write_heading<W: Write>(out: &mut W) -> io::Result<()> {
+    writeln!(out, "Record  Second  {:<COLUMNS$}  Answer", "What it was")
 }
 
-// The rest of a line, where what the record was stands from a place on: its answer. What is too long for its columns
-// moves the answer on.
-fn say_answer(line: &mut [u8], start: usize, end: usize, answer: u32) {
-    let taken = text::characters(text::part(line, start, end));
-    let a = text::blanks(line, end, taken, COLUMNS);
-    let b = text::put(line, a, b"  ");
-    let c = words::put_answer(line, b, answer as u64);
-    text::say(line, c);
+// The rest of a line, behind what the record was: its answer. What is too long for its columns moves the answer on.
+fn write_answer<W: Write>(mut line: Columns<'_, W>, answer: Answer) -> io::Result<()> {
+    line.fill_to(COLUMNS)?;
+    write!(line, "  ")?;
+    words::write_answer(&mut line, answer.number)?;
+    writeln!(line)
 }
 
 // The line of a record: its number, its second, what it was, its answer.
-pub(crate) fn say_call(
-    line: &mut [u8],
-    names: &[u8],
+pub(crate) fn write_call<R: Read, W: Write>(
+    out: &mut W,
+    names: Names<'_>,
     at: u64,
-    second: u64,
-    major: u8,
-    answer: u32,
-    call: &[u8],
-) {
-    let a = text::column(line, 0, at, 6);
-    let b = text::column(line, a, second, 8);
-    let start = text::put(line, b, b"  ");
-    let end = put_call(line, start, names, major, answer, call);
-    say_answer(line, start, end, answer);
+    night: &Walk<R>,
+) -> io::Result<()> {
+    let answer = night.answer();
+    let second = night.seconds();
+    let major = whose::major(night.opening());
+    write!(out, "{at:>6}{second:>8}  ")?;
+    let mut line = Columns::of(out);
+    write_what(&mut line, names, major, answer, night.record())?;
+    write_answer(line, answer)
 }
 
 // The line of an opening record that is bad, or missing, as there is no byte of it.
-pub(crate) fn say_bad(line: &mut [u8], answer: u32, len: usize) {
-    let start = text::put(line, 0, b"     0       0  ");
-    if len == 0 {
-        let none = text::put(line, start, b"no record: the trace is empty");
-        return say_answer(line, start, none, answer);
+pub(crate) fn write_bad<R: Read, W: Write>(out: &mut W, night: &Walk<R>) -> io::Result<()> {
+    write!(out, "     0       0  ")?;
+    let mut line = Columns::of(out);
+    if night.record().is_empty() {
+        write!(line, "no record: the trace is empty")?;
+    } else {
+        write!(line, "{UNUSED}")?;
     }
-    let end = text::put(line, start, b"a record that cannot be used");
-    say_answer(line, start, end, answer);
+    write_answer(line, night.answer())
 }

@@ -46,8 +46,7 @@ fn main(rt: HostRuntime) {
     let mut piece = [0u8; PIECE];
     let mut text = [0u8; TEXT];
     let mut held = stream::opened();
-    let mut reads: u64 = 0;
-    while reads < READS {
+    for _reads in 0..READS {
         let Ok(n) = input.read(&mut piece) else {
             return say_unread();
         };
@@ -62,6 +61,5 @@ fn main(rt: HostRuntime) {
         if !write(&text[..end]) || held.over {
             return;
         }
-        reads += 1;
     }
 }

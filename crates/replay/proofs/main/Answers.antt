@@ -6,7 +6,7 @@ use lib.ListN.{length}
 use lib.Seq.{length-take-le}
 use Rattle.night.specs.Step.{state_len}
 use Rattle.replay.specs.Room.{Begun}
-use Rattle.replay.proofs.RoomLaws.{begun_at_0, zeros, start_at, roomy_by, line_by, read-text, read_count, read-numbers, reads_closer}
+use Rattle.replay.proofs.RoomLaws.{begun_at_0, zeros, start_at, roomy_by, line_by, read-text, read_count, read-numbers}
 use Rattle.replay.proofs.main.Goals as goal
 
 pub loop-reads-init : goal.loop-reads-init
@@ -66,7 +66,7 @@ feed-held-requires c =
     let same = c.read.auto.buf in record {
       begun = l.invariant.1;
       piece_in_bounds = read-text _ _ _ _ few.0 few.1 same l.invariant.4 _ l.invariant.5;
-      piece_bound = read_count _ _ _ _ few.0 few.1 same l.invariant.4 _ _ l.invariant.0 c.loop-reads-test.true;
+      piece_bound = read_count _ _ _ _ few.0 few.1 same l.invariant.4 _ _ l.invariant.0 (omega arith);
     }
 
 pub slice_bounds-text-end-in-loop-reads : goal.slice_bounds-text-end-in-loop-reads
@@ -74,12 +74,6 @@ slice_bounds-text-end-in-loop-reads c = c.feed-held.ensures.end_in_bounds
 
 pub slice_bounds-write-end-in-loop-reads : goal.slice_bounds-write-end-in-loop-reads
 slice_bounds-write-end-in-loop-reads c = sym (length-take-le _ _ c.feed-held.ensures.end_in_bounds)
-
-pub overflow_add-reads : goal.overflow_add-reads
-overflow_add-reads c = omega (arith, c.loop-reads-test.true)
-
-pub loop-reads-smaller : goal.loop-reads-smaller
-loop-reads-smaller c = reads_closer _ c.loop-reads-test.true
 
 pub loop-reads-preserved : goal.loop-reads-preserved
 loop-reads-preserved c =

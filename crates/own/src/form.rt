@@ -6,10 +6,7 @@ ghost use Rattle.record.specs.Record.{key_of, record_form};
 ghost use Rattle.own.specs.Own.{own_form};
 ghost use Rattle.own.specs.Low.{low_at};
 
-use std::cmp::Ordering;
-
-// Is the key at place i of records above the one before it? (A match, as `is_lt` is an instruction more where the first own record
-// is refused.)
+// Is the key at place i of records above the one before it?
 pub fn above_before(s: &[u8], i: usize) -> bool
     requires { 100 * i + 100 ≤ length s.now }
     ensures { result ≡ leb (low_at s.now i) (key_at (100 * i) s.now) }
@@ -18,11 +15,8 @@ pub fn above_before(s: &[u8], i: usize) -> bool
         return true;
     }
     let before = record::RECORD_LEN * (i - 1);
-    match key::order_at(s, before, s, record::RECORD_LEN * i) {
-        Ordering::Less => true,
-        Ordering::Equal => false,
-        Ordering::Greater => false,
-    }
+    let this = record::RECORD_LEN * i;
+    key::less_at(s, before, s, this)
 }
 
 // Has place i a record in form with a key above the one before it?

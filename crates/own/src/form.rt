@@ -31,7 +31,8 @@ fn follows(own: &[u8], i: usize) -> bool
     above_before(own, i)
 }
 
-// Are own records in form, so many as they may be?
+// Are own records in form, so many as they may be? Mostly it is one, so this stands by itself, and the test of one in its callers.
+#[inline(never)]
 fn all_formed(own: &[u8]) -> bool
     ensures { result ≡ own_form own.now }
 {

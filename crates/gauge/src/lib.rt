@@ -13,7 +13,7 @@ ghost use Rattle.gauge.specs.Converting.{conversion, conversion_of};
 
 use gauge_plan::Plan;
 use neighbours::Spot;
-use plan_send::SendPlan;
+use plan_send::Flood;
 use wire_sent::Heading;
 
 // What is done with a datagram received: everything is planned before a byte is written.
@@ -161,8 +161,8 @@ pub fn gauge_send(
     let room = output.len();
     let plan = plan_send::plan_send(own, cache, waiting, id, neighbour, key, room);
     match plan {
-        SendPlan::Refuse(number) => gauge_commit::answer_of(number, 0, 0),
-        SendPlan::Flood { used, ours, at } => commit_send::commit_send(
+        Err(number) => gauge_commit::answer_of(number, 0, 0),
+        Ok(Flood { used, ours, at }) => commit_send::commit_send(
             own, cache, waiting, used, head, neighbour, ours, at, output,
         ),
     }

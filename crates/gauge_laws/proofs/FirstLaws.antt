@@ -10,6 +10,7 @@ use native.Mathlib.Omega.{arith}
 use lib.ListN.{length, drop, length-append, length-take}
 use lib.Seq.{take_all}
 use borrow.Author.Tests.{ltb-false}
+use Rattle.std.specs.Prelude.{Result, Ok, Err}
 use Rattle.octet.specs.Part.{part, splice}
 use Rattle.octet.proofs.PartLaws.{length_part, length-splice, drop-splice}
 use Rattle.key.specs.Around.{below, above, side_of, nearness}
@@ -42,8 +43,7 @@ use Rattle.gauge_plan.specs.declared.Plan.{Plan}
 use Rattle.gauge_plan.specs.declared.Plan.TheVariants.{Refuse, Flood, Revoke, Learn, Free, Certify, Show}
 use Rattle.cpas.specs.Cpas.{cpa_of}
 use Rattle.plan_send.specs.Send.{record_sent, flood_room}
-use Rattle.plan_send.specs.declared.SendPlan.{SendPlan}
-use Rattle.plan_send.specs.declared.SendPlan.TheVariants as S
+use Rattle.plan_send.specs.declared.Flood as S
 use Rattle.gauge_commit.specs.Sending.{answer, lengths, sending, Handed, handed, OnlyFirst}
 use Rattle.gauge_commit.specs.Replies.{ack_written, inquire_written}
 use Rattle.gauge_commit.proofs.LengthLaws.{inquire-length, cpa_length, flood-length}
@@ -194,12 +194,12 @@ plan_first m l (Show h u a target path size opens start len) k =
 
 -- ---- a FLOOD sent
 
-send_first : (m : Memory) (l : Send) (p : SendPlan) → KnownSend m l p
+send_first : (m : Memory) (l : Send) (p : Result S.Flood ℕ) → KnownSend m l p
     → OnlyFirst ((send_carried m l p).answer.first + (send_carried m l p).answer.second) l.output (send_carried m l p).output
 unfolding send_carried
-send_first m l (S.Refuse n) k = none_first l.output
-send_first m l (S.Flood u ours at) k =
-    let r = record_sent l.own m.cache ours at in
+send_first m l (Err n) k = none_first l.output
+send_first m l (Ok f) k =
+    let r = record_sent l.own m.cache f.ours f.at in
     sent_first ((flood_made l.major l.minor l.id l.neighbour r 0).bytes ∷ []) l.output (omega arith)
     (flood-room l.major l.minor l.id r k.formed l.neighbour k.addressed k.fits_in)
 

@@ -6,6 +6,7 @@ use Prim.Native.Nat.{ℕ, zero, suc, ◌^◌, ◌<◌}
 use native.Mathlib.Omega.{arith}
 use lib.ListN.{length, get_or}
 use borrow.Author.Tests.{not-false}
+use Rattle.std.specs.Prelude.{Result, Ok, Err}
 use Rattle.key.specs.Number.{key_at}
 use Rattle.record.specs.Record.{key_of, record_form}
 use Rattle.own.specs.Own.{Own, own_keys, IsOwn}
@@ -26,8 +27,7 @@ use Rattle.waiting_form.specs.Call.{tick_done}
 use Rattle.refusal.proofs.CallLaws.{or_known}
 use Rattle.gauge_plan.specs.declared.Plan.{Plan}
 use Rattle.gauge_plan.specs.declared.Plan.TheVariants.{Refuse, Flood, Revoke, Learn, Free, Certify, Show}
-use Rattle.plan_send.specs.declared.SendPlan.{SendPlan}
-use Rattle.plan_send.specs.declared.SendPlan.TheVariants as S
+use Rattle.plan_send.specs.declared.Flood as S
 use Rattle.gauge_commit.specs.Sending.{answer, Handed, handed}
 use Rattle.gauge_commit.proofs.PlaceLaws.{record-place, record_key}
 use Rattle.gauge_plan.specs.Lent.{Memory, with_firsts, with_tables, with_waiting, Counted, InForm, Receive, Send, Tick, Call, receives, sends, ticks, lists, own_of}
@@ -46,10 +46,10 @@ use Rattle.gauge_laws.proofs.TickLaws.{tick_done_lem}
 
 -- ---- what stands beside the tables is as it was
 
-send_by : (m : Memory) (l : Send) (p : SendPlan) → (send_carried m l p).memory ≡ with_waiting (send_carried m l p).memory.waiting m
+send_by : (m : Memory) (l : Send) (p : Result S.Flood ℕ) → (send_carried m l p).memory ≡ with_waiting (send_carried m l p).memory.waiting m
 unfolding send_carried
-send_by m l (S.Refuse n) = refl
-send_by m l (S.Flood u _ at) = refl
+send_by m l (Err n) = refl
+send_by m l (Ok f) = refl
 
 pub send_rest : (m : Memory) (l : Send) → (send_call m l).memory ≡ with_waiting (send_call m l).memory.waiting m
 unfolding send_call

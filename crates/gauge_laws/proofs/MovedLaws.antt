@@ -26,7 +26,7 @@ use Rattle.waiting.specs.Form.{PlacesForm, is_inquiry, used_of, places_of}
 use Rattle.table.specs.Seek.{seek}
 use Rattle.waiting.specs.Seek.{has_id}
 use Rattle.waiting.specs.Open.{opened, freed}
-use Rattle.std.specs.Prelude.{Option, Some, None}
+use Rattle.std.specs.Prelude.{Option, Some, None, Result, Err}
 use Rattle.waiting.proofs.NewLaws.{new-id, new-kind}
 use Rattle.waiting.proofs.FormLaws.{form_of, form_unique}
 use Rattle.waiting.proofs.KeptLaws.{free-kept, open-inquiry, open-flood}
@@ -35,8 +35,7 @@ use Rattle.asking.specs.Ids.{id_after}
 use Rattle.plan_send.specs.Send.{send_done, sending_plan}
 use Rattle.gauge_plan.specs.declared.Plan.{Plan}
 use Rattle.gauge_plan.specs.declared.Plan.TheVariants.{Refuse, Flood, Revoke, Learn, Free, Certify, Show}
-use Rattle.plan_send.specs.declared.SendPlan.{SendPlan}
-use Rattle.plan_send.specs.declared.SendPlan.TheVariants as S
+use Rattle.plan_send.specs.declared.Flood as S
 use Rattle.gauge_plan.proofs.MemoryLaws.{Ready, ready}
 use Rattle.asking.proofs.AskingLaws.{ask_tells, asks-tells}
 use Rattle.gauge_commit.specs.Replies.{freed_at}
@@ -182,13 +181,13 @@ module _ (m : Memory) (l : Receive) where
 
 module _ (m : Memory) (l : Send) where
   -- what is planned where nothing stands against it, and known of it
-  abbrev done : SendPlan
+  abbrev done : Result S.Flood ℕ
   done = send_done l.own (held_of (own_keys l.own) m.cache) (used_of m.waiting) (key_at 0 l.key)
 
   module _ (z : (send_call m l).answer.number ≡ 0) where
     pub send-planned : send_plan m l ≡ done
     unfolding sending_plan send_call
-    send-planned = all_pass S.Refuse (table_of m (sends l)) done (none_applies m (sends l) z)
+    send-planned = all_pass Err (table_of m (sends l)) done (none_applies m (sends l) z)
 
     pub send-told : KnownSend m l done
     send-told = send-known-by m l send-planned

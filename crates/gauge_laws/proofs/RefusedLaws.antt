@@ -3,6 +3,7 @@ use mathlib.Core.Path.{◌≡◌, refl, sym, ap, ◌∙◌}
 use mathlib.Core.List.{List}
 use Prim.Native.Nat.{ℕ, ◌<◌}
 use native.Mathlib.Omega.{arith}
+use Rattle.std.specs.Prelude.{Result, Ok, Err}
 use Rattle.key.specs.Number.{key_at}
 use Rattle.refusal.specs.Table.{Refusal, or_refuse}
 use Rattle.refusal.proofs.CallLaws.{or_refuses, number_is}
@@ -12,8 +13,7 @@ use Rattle.cache.specs.Calls.{held_by}
 use Rattle.waiting_form.specs.Call.{tick_done}
 use Rattle.gauge_plan.specs.declared.Plan.{Plan}
 use Rattle.gauge_plan.specs.declared.Plan.TheVariants.{Refuse, Flood, Revoke, Learn, Free, Certify, Show}
-use Rattle.plan_send.specs.declared.SendPlan.{SendPlan}
-use Rattle.plan_send.specs.declared.SendPlan.TheVariants as S
+use Rattle.plan_send.specs.declared.Flood as S
 use Rattle.gauge_commit.specs.Sending.{answer, Handed, handed}
 use Rattle.gauge_plan.specs.Lent.{Memory, Receive, Send, Tick, Listing, Call, receives, sends, ticks, lists, output_of}
 use Rattle.gauge.specs.Counts.{tick_answered, tick_table, gauge_tick, list_answered, gauge_list}
@@ -40,11 +40,11 @@ unfolding receive_call
 receive_refused m l h = receive_by m l (receive_plan m l) h
 
 -- a FLOOD to send, by its plan
-send_by : (m : Memory) (l : Send) (p : SendPlan) → 0 < (send_carried m l p).answer.number
+send_by : (m : Memory) (l : Send) (p : Result S.Flood ℕ) → 0 < (send_carried m l p).answer.number
     → send_carried m l p ≡ handed (answer (send_carried m l p).answer.number 0 0) m l.output
 unfolding send_carried
-send_by m l (S.Refuse n) h = refl
-send_by m l (S.Flood u ours at) h = absurd (omega arith)
+send_by m l (Err n) h = refl
+send_by m l (Ok f) h = absurd (omega arith)
 
 pub send_refused : (m : Memory) (l : Send) → 0 < (send_call m l).answer.number
     → send_call m l ≡ handed (answer (send_call m l).answer.number 0 0) m l.output

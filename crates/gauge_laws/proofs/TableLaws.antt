@@ -25,7 +25,7 @@ use Rattle.cache.specs.Calls.{held_by}
 use Rattle.waiting.specs.Form.{used_of}
 use Rattle.waiting_form.specs.Call as W
 use Rattle.wire_fields.specs.Refusals as fields
-use Rattle.std.specs.Prelude.{Some, None}
+use Rattle.std.specs.Prelude.{Some, None, Result, Ok, Err}
 use Rattle.wire_fields.specs.Places.{Part}
 use Rattle.wire_read.specs.Answers as R
 use Rattle.wire_read.specs.declared.Head.{Head}
@@ -38,8 +38,7 @@ use Rattle.gauge_plan.specs.declared.Plan.{Plan}
 use Rattle.gauge_plan.specs.declared.Plan.TheVariants.{Refuse, Flood, Revoke, Learn, Free, Certify, Show}
 use Rattle.std.specs.Prelude.{None}
 use Rattle.plan_send.specs.Send.{sending_plan}
-use Rattle.plan_send.specs.declared.SendPlan.{SendPlan}
-use Rattle.plan_send.specs.declared.SendPlan.TheVariants as S
+use Rattle.plan_send.specs.declared.Flood as S
 use Rattle.gauge_plan.specs.Lent.{Memory, Receive, Send, Call, receives, sends, ticks, lists}
 use Rattle.plan_message.specs.Planned.{by_entry, plan_for, plan_in, receive_plan}
 use Rattle.gauge.specs.Receive.{carried, receive_call}
@@ -98,9 +97,9 @@ number_of (Free h u at n) = 0
 number_of (Certify a i) = 0
 number_of (Show h u a t p z o at size) = 0
 
-abbrev send_number : SendPlan → ℕ
-send_number (S.Refuse n) = n
-send_number (S.Flood u _ at) = 0
+abbrev send_number : Result S.Flood ℕ → ℕ
+send_number (Err n) = n
+send_number (Ok f) = 0
 
 carried-number : (m : Memory) (l : Receive) (p : Plan) → (carried m l p).answer.number ≡ number_of p
 unfolding carried
@@ -116,14 +115,14 @@ by_table : (rs : List Refusal) (done : Plan) → number_of done ≡ 0 → number
 by_table rs done e = number_is number_of Refuse (λ n. refl) done e rs
 
 -- a FLOOD to send
-sent-number : (m : Memory) (l : Send) (p : SendPlan) → (send_carried m l p).answer.number ≡ send_number p
+sent-number : (m : Memory) (l : Send) (p : Result S.Flood ℕ) → (send_carried m l p).answer.number ≡ send_number p
 unfolding send_carried
-sent-number m l (S.Refuse n) = refl
-sent-number m l (S.Flood u _ at) = refl
+sent-number m l (Err n) = refl
+sent-number m l (Ok f) = refl
 
 send-number : (m : Memory) (l : Send) → (send_call m l).answer.number ≡ first_of (table_of m (sends l))
 unfolding send_call sending_plan
-send-number m l = sent-number m l (send_plan m l) ∙ number_is send_number S.Refuse (λ n. refl) _ refl (table_of m (sends l))
+send-number m l = sent-number m l (send_plan m l) ∙ number_is send_number Err (λ n. refl) _ refl (table_of m (sends l))
 
 -- ---- two tables, one behind the other
 

@@ -36,9 +36,8 @@ use Rattle.gauge_plan.specs.Memory.{fitness, tables_fit, memory_of}
 use Rattle.gauge_plan.specs.Found.{is_nothing, place_of}
 use Rattle.gauge_plan.specs.Opening.{open_rows}
 use Rattle.gauge_plan.proofs.OwnLaws.{place_within, record-room, record-formed}
-use Rattle.plan_send.specs.Send.{sent_at, keys_fit, held_at, record_sent, flood_room, send_table, send_done, send_refusals, sending_plan}
-use Rattle.plan_send.specs.declared.SendPlan.{SendPlan}
-use Rattle.plan_send.specs.declared.SendPlan.TheVariants.{Refuse, Flood}
+use Rattle.plan_send.specs.Send.{sent_at, keys_fit, held_at, record_sent, flood_room, send_table, sends_at, send_done, send_refusals, sending_plan}
+use Rattle.plan_send.specs.declared.Flood.{Flood}
 use Rattle.gauge_plan.proofs.MemoryLaws.{Ready, KnownMemory, known_memory, ready}
 use Rattle.gauge_plan.proofs.FoundLaws.{some_found}
 use Rattle.gauge_plan.proofs.OpeningLaws.{open-refuses, open-passes}
@@ -108,16 +107,16 @@ module _ (k held : ℕ) (cache : List ℕ) {ours missing : Bool} (m : missing �
 -- ---- the plan by the tests that the code makes
 
 module _ (own cache : List ℕ) (recs ps : List (List ℕ)) (used id room neighbour k : ℕ) where
-  abbrev pub planned : SendPlan
-  planned = or_refuse Refuse (send_table own cache recs ps used id room neighbour k) (send_done own recs used k)
+  abbrev pub planned : Result Flood ℕ
+  planned = or_refuse Err (send_table own cache recs ps used id room neighbour k) (send_done own recs used k)
 
-  pub send-nobody : is_nothing (held_at neighbour recs) ≡ true → planned ≡ Refuse 12
+  pub send-nobody : is_nothing (held_at neighbour recs) ≡ true → planned ≡ Err 12
   unfolding or_refuse
   send-nobody e = rw e refl
 
   module _ (to : is_nothing (held_at neighbour recs) ≡ false) {ours missing : Bool} (o : ours ≡ is_own (own_keys own) k)
       (m : missing ≡ is_nothing (held_at k recs)) where
-    pub send-missing : not ours && missing ≡ true → planned ≡ Refuse 12
+    pub send-missing : not ours && missing ≡ true → planned ≡ Err 12
     unfolding or_refuse
     send-missing e = rw (to, sym o, sym m, e) refl
 
@@ -126,26 +125,26 @@ module _ (own cache : List ℕ) (recs ps : List (List ℕ)) (used id room neighb
       abbrev rest : List Refusal
       rest = when 15 (ltb room (flood_room (record_sent own cache ours (sent_at own recs k)))) ∷ []
 
-      send-known-to : planned ≡ or_refuse Refuse (open_rows true ps used id ++ rest) (Flood used ours (sent_at own recs k))
-      send-known-to = row_passes Refuse 12 _ _ _ to ∙ rw (sym o, sym m) (row_passes Refuse 12 _ _ _ some)
+      send-known-to : planned ≡ or_refuse Err (open_rows true ps used id ++ rest) (sends_at used ours (sent_at own recs k))
+      send-known-to = row_passes Err 12 _ _ _ to ∙ rw (sym o, sym m) (row_passes Err 12 _ _ _ some)
 
-      pub send-barred : 0 < barred → planned ≡ Refuse barred
-      send-barred p = send-known-to ∙ open-refuses Refuse true ps used id rest _ eb p
+      pub send-barred : 0 < barred → planned ≡ Err barred
+      send-barred p = send-known-to ∙ open-refuses Err true ps used id rest _ eb p
 
       module _ (clear : barred ≡ 0) {at count : ℕ} (p : at ≡ sent_at own recs k) (n : count ≡ count_of (record_sent own cache ours at)) where
-        send-room : planned ≡ or_refuse Refuse (when 15 (ltb room (100 + 16 * count)) ∷ []) (Flood used ours at)
-        send-room = send-known-to ∙ open-passes Refuse true ps used id rest _ eb clear ∙ rw (sym p, sym n) refl
+        send-room : planned ≡ or_refuse Err (when 15 (ltb room (100 + 16 * count)) ∷ []) (sends_at used ours at)
+        send-room = send-known-to ∙ open-passes Err true ps used id rest _ eb clear ∙ rw (sym p, sym n) refl
 
-        pub send-long : room < 100 + 16 * count → planned ≡ Refuse 15
-        send-long e = send-room ∙ row_applies Refuse 15 _ _ _ (lt-ltb room (100 + 16 * count) e)
+        pub send-long : room < 100 + 16 * count → planned ≡ Err 15
+        send-long e = send-room ∙ row_applies Err 15 _ _ _ (lt-ltb room (100 + 16 * count) e)
 
-        pub send-fits : 100 + 16 * count ≤ room → planned ≡ Flood used ours at
-        send-fits e = send-room ∙ row_passes Refuse 15 _ _ _ (le-ltb room (100 + 16 * count) e) ∙ no_row Refuse _
+        pub send-fits : 100 + 16 * count ≤ room → planned ≡ sends_at used ours at
+        send-fits e = send-room ∙ row_passes Err 15 _ _ _ (le-ltb room (100 + 16 * count) e) ∙ no_row Err _
 
 module _ (own : List ℕ) (m : Memory) (id : ℕ) (neighbour key : List ℕ) (room : ℕ) where
-  pub send-unfit : memory_of own m ≡ None → sending_plan own m id neighbour key room ≡ Refuse 1
+  pub send-unfit : memory_of own m ≡ None → sending_plan own m id neighbour key room ≡ Err 1
   unfolding sending_plan
-  send-unfit e = row_applies Refuse 1 _ _ _ (not_isn't (subst (KnownMemory own m) e (known_memory own m)))
+  send-unfit e = row_applies Err 1 _ _ _ (not_isn't (subst (KnownMemory own m) e (known_memory own m)))
 
   module _ {h u : ℕ} (fit : memory_of own m ≡ fitness h u) where
     pub send-ready : Ready own m h u
@@ -155,16 +154,16 @@ module _ (own : List ℕ) (m : Memory) (id : ℕ) (neighbour key : List ℕ) (ro
     unfolding tables_fit
     all_fit = rw (send-ready.owned, send-ready.cached, send-ready.tabled) refl
 
-    pub send-keys : keys_fit neighbour key ≡ false → sending_plan own m id neighbour key room ≡ Refuse 1
+    pub send-keys : keys_fit neighbour key ≡ false → sending_plan own m id neighbour key room ≡ Err 1
     unfolding sending_plan
-    send-keys e = row_passes Refuse 1 _ _ _ (not_is all_fit) ∙ row_applies Refuse 1 _ _ _ (not_isn't e)
+    send-keys e = row_passes Err 1 _ _ _ (not_is all_fit) ∙ row_applies Err 1 _ _ _ (not_isn't e)
 
     pub send-planned : keys_fit neighbour key ≡ true
         → sending_plan own m id neighbour key room
         ≡ planned own m.cache (rows 100 h m.cache) (rows 140 u m.waiting) u id room (key_at 0 neighbour) (key_at 0 key)
     unfolding sending_plan held_of
     send-planned e =
-        row_passes Refuse 1 _ _ _ (not_is all_fit) ∙ row_passes Refuse 1 _ _ _ (not_is e)
+        row_passes Err 1 _ _ _ (not_is all_fit) ∙ row_passes Err 1 _ _ _ (not_is e)
         ∙ ap₂ (λ (h u : ℕ). planned own m.cache (rows 100 h m.cache) (rows 140 u m.waiting) u id room (key_at 0 neighbour) (key_at 0 key))
         (sym send-ready.held) (sym send-ready.used)
 
@@ -231,9 +230,9 @@ module _ (own cache : List ℕ) (k held : ℕ) (owned : own_form own ≡ true) (
       )
 
 module _ (own : List ℕ) (m : Memory) (id : ℕ) (neighbour key : List ℕ) (room : ℕ) where
-  abbrev pub KnownSend : SendPlan → Type 0
-  KnownSend (Refuse n) = Unit {0}
-  KnownSend (Flood u ours at) = Sent own m id neighbour key room u ours at
+  abbrev pub KnownSend : Result Flood ℕ → Type 0
+  KnownSend (Err n) = Unit {0}
+  KnownSend (Ok f) = Sent own m id neighbour key room f.used f.ours f.at
 
   pub known-send : KnownSend (sending_plan own m id neighbour key room)
   unfolding sending_plan held_of
@@ -244,7 +243,7 @@ module _ (own : List ℕ) (m : Memory) (id : ℕ) (neighbour key : List ℕ) (ro
       let k = key_at 0 key in
       let ours = is_own (own_keys own) k in
       let at = sent_at own recs k in
-      or_known KnownSend Refuse (send_refusals own m id neighbour key room) (send_done own recs used k)
+      or_known KnownSend Err (send_refusals own m id neighbour key room) (send_done own recs used k)
       (λ n. tt)
       (λ f.
       let fit = ready own m (not-false (tables_fit own m) f.0) in

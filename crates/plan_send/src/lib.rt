@@ -1,7 +1,7 @@
 // What is planned for a FLOOD to send: every refusal is decided here.
 #![tactic(auto)]
 
-ghost use Rattle.std.specs.Prelude.{◌≡◌, true, false, cond, ◌+◌, ◌*◌, ◌≤◌, ◌<◌, length};
+ghost use Rattle.std.specs.Prelude.{◌≡◌, true, false, cond, Err, ◌+◌, ◌*◌, ◌≤◌, ◌<◌, length};
 ghost use Rattle.key.specs.Number.{key_at};
 ghost use Rattle.record.specs.Record.{count_of};
 ghost use Rattle.own.specs.Own.{own_form, own_keys, own_place, is_own};
@@ -12,17 +12,16 @@ ghost use Rattle.cache.specs.Form.{Form, keys_of};
 ghost use Rattle.gauge_plan.specs.Lent.{Memory, with_tables};
 ghost use Rattle.gauge_plan.specs.Found.{place_of};
 ghost use Rattle.plan_send.specs.Send.{held_at, record_sent, send_table, send_done, sending_plan};
-ghost use Rattle.plan_send.specs.declared.SendPlan.TheVariants as P;
 
 use gauge_plan::Fit;
 
-// What is to be done with a FLOOD to send.
+// A FLOOD to send, where nothing is refused: how many places are used, and the record's place among our own or those
+// held.
 #[derive(Clone, Copy)]
-pub enum SendPlan {
-    // Refused with the number.
-    Refuse(u32),
-    // The FLOOD of the record at a place of our own, or of those held.
-    Flood { used: usize, ours: bool, at: usize },
+pub struct Flood {
+    pub used: usize,
+    pub ours: bool,
+    pub at: usize,
 }
 
 // Where the record with a key stands among those held.
@@ -67,34 +66,34 @@ fn plan_flood_to(
     neighbour: &[u8],
     key: &[u8],
     room: usize,
-) -> SendPlan
+) -> Result<Flood, u32>
     requires { (own_form own.now ≡ true) × Form (own_keys own.now) cache.now (rows 100 held cache.now)
         × (140 * used ≤ length waiting.now) × (length neighbour.now ≡ 32) × (length key.now ≡ 32) }
-    ensures { result ≡ or_refuse P.Refuse (send_table own.now cache.now
+    ensures { result ≡ or_refuse Err (send_table own.now cache.now
         (rows 100 held cache.now) (rows 140 used waiting.now) used id room
         (key_at 0 neighbour.now) (key_at 0 key.now))
         (send_done own.now (rows 100 held cache.now) used (key_at 0 key.now)) }
 {
     let to = held_at(cache, held, neighbour);
     if to.is_none() {
-        return SendPlan::Refuse(refusal::NOT_OURS);
+        return Err(refusal::NOT_OURS);
     }
     let ours = own::is_own(own, key, 0);
     let found = held_at(cache, held, key);
     let missing = found.is_none();
     if !ours & missing {
-        return SendPlan::Refuse(refusal::NOT_OURS);
+        return Err(refusal::NOT_OURS);
     }
     let barred = gauge_plan::open_refusal(true, waiting, used, id);
     if barred != 0 {
-        return SendPlan::Refuse(barred);
+        return Err(barred);
     }
     let at = sent_at(own, key, ours, found);
     let count = count_sent(own, cache, ours, at);
     if room < 100 + 16 * count {
-        return SendPlan::Refuse(refusal::ROOM);
+        return Err(refusal::ROOM);
     }
-    SendPlan::Flood { used, ours, at }
+    Ok(Flood { used, ours, at })
 }
 
 // The plan for a FLOOD to the neighbour of a key, of the record with another. `room` is the output's length.
@@ -107,16 +106,16 @@ pub fn plan_send(
     neighbour: &[u8],
     key: &[u8],
     room: usize,
-) -> SendPlan
+) -> Result<Flood, u32>
     ensures { (m : Memory) → result
         ≡ sending_plan own.now (with_tables cache.now waiting.now m) id
         neighbour.now key.now room }
 {
     let Some(Fit { held, used }) = gauge_plan::survey(own, cache, waiting) else {
-        return SendPlan::Refuse(refusal::MEMORY);
+        return Err(refusal::MEMORY);
     };
     if !((neighbour.len() == 32) & (key.len() == 32)) {
-        return SendPlan::Refuse(refusal::MEMORY);
+        return Err(refusal::MEMORY);
     }
     plan_flood_to(own, cache, held, waiting, used, id, neighbour, key, room)
 }

@@ -51,17 +51,18 @@ fn changed<W: Write>(number: u32, own: &[u8], cache: &[u8], out: &mut W) -> io::
 // The number, and with 0 the two counts and the keys.
 fn neighbours<W: Write>(own: &[u8], cache: &[u8], key: &[u8], out: &mut W) -> io::Result<()> {
     let mut room = [0u8; 320];
-    let listed = neighbours::neighbour_list(own, cache, key, &mut room);
-    let (number, below, above) = (listed.number, listed.below, listed.above);
-    if number != 0 {
-        return write!(out, "{number}");
+    match neighbours::neighbour_list(own, cache, key, &mut room) {
+        Ok(counts) => {
+            let (below, above) = (counts.below, counts.above);
+            let keys = Keys {
+                rows: &room,
+                count: below.saturating_add(above),
+                step: 32,
+            };
+            write!(out, "0 {below} {above} {keys}")
+        }
+        Err(number) => write!(out, "{number}"),
     }
-    let keys = Keys {
-        rows: &room,
-        count: below.saturating_add(above),
-        step: 32,
-    };
-    write!(out, "{number} {below} {above} {keys}")
 }
 
 // The number, and with 0 the record and how many keys were compared.

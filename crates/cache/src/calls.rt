@@ -28,37 +28,37 @@ pub fn memory(own: &[u8], cache: &[u8]) -> Option<usize>
     form(own, cache)
 }
 
-// A record is learned. Gives 0 or 1.
-pub fn learn_record(own: &[u8], cache: &mut [u8], record: &[u8]) -> u32
+// A record is learned; refused with 1, nothing changes.
+pub fn learn_record(own: &[u8], cache: &mut [u8], record: &[u8]) -> Result<(), u32>
     ensures { cache_changed result cache.new
         ≡ learn_call own.now cache.old «record».now }
 {
     let Some(used) = memory(own, cache) else {
-        return refusal::MEMORY;
+        return Err(refusal::MEMORY);
     };
     if !record::is_record(record) {
-        return refusal::MEMORY;
+        return Err(refusal::MEMORY);
     }
     if own::is_own(own, record, 0) {
-        return refusal::MEMORY;
+        return Err(refusal::MEMORY);
     }
     learn(own, cache, used, record);
-    0
+    Ok(())
 }
 
-// A key is removed if held. Gives 0 or 1.
-pub fn remove_key(own: &[u8], cache: &mut [u8], key: &[u8]) -> u32
+// A key is removed if held; refused with 1, nothing changes.
+pub fn remove_key(own: &[u8], cache: &mut [u8], key: &[u8]) -> Result<(), u32>
     ensures { cache_changed result cache.new
         ≡ remove_call own.now cache.old key.now }
 {
     let Some(used) = memory(own, cache) else {
-        return refusal::MEMORY;
+        return Err(refusal::MEMORY);
     };
     if key.len() != 32 {
-        return refusal::MEMORY;
+        return Err(refusal::MEMORY);
     }
     remove(own, cache, used, key);
-    0
+    Ok(())
 }
 
 // A key is searched for. Gives 0 or 1, whether it is held and where, and how many keys were compared.

@@ -10,8 +10,9 @@ use Rattle.refusal.proofs.CallLaws.{or_known, or_under}
 use Rattle.table.proofs.RowLaws.{rows-length}
 use Rattle.kept.specs.Neighbours.{nearest_first}
 use Rattle.cache.specs.Form.{keys_of}
+use Rattle.std.specs.Prelude.{Ok, Err}
 use Rattle.neighbours.specs.Listing.{counts_of, after_list}
-use Rattle.neighbours.specs.Calls.{Written, list_written, list_wrong, list_call}
+use Rattle.neighbours.specs.Calls.{Written, list_counts, list_written, list_wrong, list_call}
 use Rattle.cache.specs.Calls.{held_by}
 use Rattle.waiting.specs.Form.{used_of, places_of}
 use Rattle.waiting_form.specs.Call.{Ticked, tick_handed, tick_refusals, tick_done, tick_call}
@@ -37,14 +38,13 @@ tick_few own t o =
     (λ f. omega (arith, listed_few (places_of t), rows-length 140 (used_of t) t, used_few t))
 
 -- at most five keys of each side
-pub list_few : (own cache key out : List ℕ) → ((list_call own cache key out).answer.below ≤ 5) × ((list_call own cache key out).answer.above ≤ 5)
+pub list_few : (own cache key out : List ℕ) → ((list_counts (list_call own cache key out).answer).below ≤ 5) × ((list_counts (list_call own cache key out).answer).above ≤ 5)
 unfolding list_call
 list_few own cache key out =
     let k = key_at 0 key in
     let recs = held_by own cache in
-    let counts = counts_of k recs in
-    or_known (λ (w : Written). (w.answer.below ≤ 5) × (w.answer.above ≤ 5)) (λ (n : ℕ). list_written (record { number = n; below = 0; above = 0 }) out)
-    (list_wrong own cache key out) (list_written (record { number = 0; below = counts.below; above = counts.above }) (after_list k recs out))
+    or_known (λ (w : Written). ((list_counts w.answer).below ≤ 5) × ((list_counts w.answer).above ≤ 5)) (λ (n : ℕ). list_written (Err n) out)
+    (list_wrong own cache key out) (list_written (Ok (counts_of k recs)) (after_list k recs out))
     (λ n. (omega arith, omega arith))
     (λ f. (
       omega (arith, length-take 5 (nearest_first (side_of k) (nearness k) below (keys_of recs))),

@@ -3,7 +3,7 @@
 -- `ours-meets` (sentences/Theorems). Assumes nothing.
 use Rattle.std.specs.Prelude.{not, List, [], ◌∷◌, ltb, length}
 use Rattle.refusal.specs.Table.{Refusal, when, or_refuse}
-use Rattle.neighbours.specs.Calls.{Written, list_call}
+use Rattle.neighbours.specs.Calls.{Written, list_number, list_counts, list_call}
 use Rattle.waiting_form.specs.Call.{Ticked, tick_done}
 use Rattle.gauge_plan.specs.Lent.{Memory, with_waiting, Tick, Listing}
 use Rattle.gauge_plan.specs.Memory.{tick_fit}
@@ -22,7 +22,7 @@ gauge_tick m l = or_refuse (λ n. handed (answer n 0 0) m l.output) (tick_table 
 
 -- memory stays as it is
 abbrev pub list_answered : Memory → Written → Handed
-list_answered m w = handed (answer w.answer.number w.answer.below w.answer.above) m w.output
+list_answered m w = handed (answer (list_number w.answer) (list_counts w.answer).below (list_counts w.answer).above) m w.output
 
 unfoldable pub gauge_list : Memory → Listing → Handed
 gauge_list m l = list_answered m (list_call l.own m.cache l.key l.output)

@@ -190,8 +190,10 @@ pub fn gauge_neighbours(
         ≡ ours (with_cache cache.now m)
         (lists (listing own.now key.now output.old)) }
 {
-    let done = neighbours::neighbour_list(own, cache, key, output);
-    gauge_commit::answer_of(done.number, done.below, done.above)
+    match neighbours::neighbour_list(own, cache, key, output) {
+        Ok(counts) => gauge_commit::answer_of(0, counts.below, counts.above),
+        Err(number) => gauge_commit::answer_of(number, 0, 0),
+    }
 }
 
 // The record closest to a target, those held that are on the path skipped: its place for one of our own, 4 more than that for one of

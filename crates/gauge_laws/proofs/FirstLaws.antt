@@ -26,7 +26,8 @@ use Rattle.kept.specs.Neighbours.{nearest_first}
 use Rattle.kept.specs.Plain.{neighbours, neighbour_list}
 use Rattle.cache.specs.Form.{keys_of}
 use Rattle.neighbours.specs.Listing.{counts_of, key_bytes, after_list}
-use Rattle.neighbours.specs.Calls.{Written, list_written, list_wrong, list_call}
+use Rattle.std.specs.Prelude.{Ok, Err}
+use Rattle.neighbours.specs.Calls.{Written, list_counts, list_written, list_wrong, list_call}
 use Rattle.cache.specs.Calls.{held_by}
 use Rattle.neighbours.specs.Closest.{off_path, closest_past}
 use Rattle.neighbours.proofs.ListLaws.{keys_length}
@@ -220,16 +221,16 @@ tick_first m l =
     (omega (arith, listed_few (places_of waiting), rows-length 140 (used_of waiting) waiting, used_few waiting)))
 
 list_first : (own cache key output : List ℕ)
-    → OnlyFirst (32 * ((list_call own cache key output).answer.below + (list_call own cache key output).answer.above)) output
+    → OnlyFirst (32 * ((list_counts (list_call own cache key output).answer).below + (list_counts (list_call own cache key output).answer).above)) output
     (list_call own cache key output).output
 unfolding list_call
 list_first own cache key output =
     let k = key_at 0 key in
     let keys = keys_of (held_by own cache) in
     let counts = counts_of k (held_by own cache) in
-    or_known (λ (w : Written). OnlyFirst (32 * (w.answer.below + w.answer.above)) output w.output)
-    (λ (n : ℕ). list_written (record { number = n; below = 0; above = 0 }) output) (list_wrong own cache key output)
-    (list_written (record { number = 0; below = counts.below; above = counts.above }) (after_list k (held_by own cache) output))
+    or_known (λ (w : Written). OnlyFirst (32 * ((list_counts w.answer).below + (list_counts w.answer).above)) output w.output)
+    (λ (n : ℕ). list_written (Err n) output) (list_wrong own cache key output)
+    (list_written (Ok counts) (after_list k (held_by own cache) output))
     (λ n. none_first output)
     (λ f.
     let room = ltb-false (length output) 320 f.1.1.1.1.0 in

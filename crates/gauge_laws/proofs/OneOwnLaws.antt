@@ -24,6 +24,7 @@ use Rattle.cache.specs.Form.{follows, cache_form}
 use Rattle.cache.specs.Calls.{memory_wrong, held_by}
 use Rattle.neighbours.specs.Listing.{after_list, counts_of}
 use Rattle.neighbours.specs.Closest.{candidates}
+use Rattle.std.specs.Prelude.{Ok, Err}
 use Rattle.neighbours.specs.Calls.{Written, list_written, list_call}
 use Rattle.waiting.specs.Place.{kind_of, place_key, place_record}
 use Rattle.waiting.specs.Form.{inquiry_form}
@@ -130,13 +131,11 @@ module _ (own : List ℕ) (one : length own ≡ 100) where
 
   module _ (cache out : List ℕ) where
     abbrev refused : ℕ → Written
-    refused n = list_written (record { number = n; below = 0; above = 0 }) out
+    refused n = list_written (Err n) out
 
     -- the list round a key
     abbrev listed : ℕ → Written
-    listed k =
-        let counts = counts_of k (held_by own cache) in
-        list_written (record { number = 0; below = counts.below; above = counts.above }) (after_list k (held_by own cache) out)
+    listed k = list_written (Ok (counts_of k (held_by own cache))) (after_list k (held_by own cache) out)
 
     pub one-own-list : (key : List ℕ) → length key ≡ 32 → key_at 0 key ≡ key_of own
         → list_call own cache key out ≡ or_refuse refused (memory_wrong own cache (when 15 (ltb (length out) 320) ∷ [])) (listed (key_of own))

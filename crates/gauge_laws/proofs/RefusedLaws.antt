@@ -8,7 +8,8 @@ use Rattle.key.specs.Number.{key_at}
 use Rattle.refusal.specs.Table.{Refusal, or_refuse}
 use Rattle.refusal.proofs.CallLaws.{or_refuses, number_is}
 use Rattle.neighbours.specs.Listing.{counts_of, after_list}
-use Rattle.neighbours.specs.Calls.{Written, list_written, list_wrong, list_call}
+use Rattle.std.specs.Prelude.{Ok, Err}
+use Rattle.neighbours.specs.Calls.{Written, list_number, list_written, list_wrong, list_call}
 use Rattle.cache.specs.Calls.{held_by}
 use Rattle.waiting_form.specs.Call.{tick_done}
 use Rattle.gauge_plan.specs.declared.Plan.{Plan}
@@ -71,10 +72,9 @@ unfolding gauge_list list_call
 list_refused m l h =
     let own = l.own in
     let cache = m.cache in
-    let counts = counts_of (key_at 0 l.key) (held_by own cache) in
-    ap (list_answered m) (by_table (λ (w : Written). w.answer.number) (λ (n : ℕ). list_written (record { number = n; below = 0; above = 0 }) l.output)
+    ap (list_answered m) (by_table (λ (w : Written). list_number w.answer) (λ (n : ℕ). list_written (Err n) l.output)
     (λ n. refl) (list_wrong own cache l.key l.output)
-    (list_written (record { number = 0; below = counts.below; above = counts.above }) (after_list (key_at 0 l.key) (held_by own cache) l.output)) refl h)
+    (list_written (Ok (counts_of (key_at 0 l.key) (held_by own cache))) (after_list (key_at 0 l.key) (held_by own cache) l.output)) refl h)
 
 -- "With any refusal the counts returned are 0 .. and every writable byte stays as lent."
 pub refused_keeps : (m : Memory) (c : Call) → 0 < (ours m c).answer.number

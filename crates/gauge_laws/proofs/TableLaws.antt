@@ -20,7 +20,7 @@ use Rattle.refusal.proofs.CallLaws.{number_is, or_refuses, all_pass}
 use Rattle.kept.specs.Keys.{Every, ◌∈◌}
 use Rattle.cache.specs.Form.{held_in, held_of}
 use Rattle.neighbours.specs.Listing.{counts_of, after_list}
-use Rattle.neighbours.specs.Calls.{Written, list_written, list_wrong, list_call}
+use Rattle.neighbours.specs.Calls.{Written, list_number, list_written, list_wrong, list_call}
 use Rattle.cache.specs.Calls.{held_by}
 use Rattle.waiting.specs.Form.{used_of}
 use Rattle.waiting_form.specs.Call as W
@@ -277,9 +277,8 @@ call_number m (ticks l) =
 call_number m (lists l) =
     let own = l.own in
     let cache = m.cache in
-    let counts = counts_of (key_at 0 l.key) (held_by own cache) in
-    number_is (λ (w : Written). w.answer.number) (λ (n : ℕ). list_written (record { number = n; below = 0; above = 0 }) l.output) (λ n. refl)
-    (list_written (record { number = 0; below = counts.below; above = counts.above }) (after_list (key_at 0 l.key) (held_by own cache) l.output)) refl
+    number_is (λ (w : Written). list_number w.answer) (λ (n : ℕ). list_written (Err n) l.output) (λ n. refl)
+    (list_written (Ok (counts_of (key_at 0 l.key) (held_by own cache))) (after_list (key_at 0 l.key) (held_by own cache) l.output)) refl
     (list_wrong own cache l.key l.output)
 
 call_rises : (m : Memory) (c : Call) → rises 0 (table_of m c) ≡ true

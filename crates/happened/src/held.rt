@@ -25,12 +25,11 @@ impl Sides {
     fn of(own: &[u8], cache: &[u8]) -> Sides {
         let mut list = [0; 320];
         let key = own.get(..32).unwrap_or(&[]);
-        let listed = neighbours::neighbour_list(own, cache, key, &mut list);
-        Sides {
-            list,
-            below: listed.below,
-            above: listed.above,
-        }
+        let (below, above) = match neighbours::neighbour_list(own, cache, key, &mut list) {
+            Ok(counts) => (counts.below, counts.above),
+            Err(_) => (0, 0),
+        };
+        Sides { list, below, above }
     }
 
     fn below(&self) -> &[[u8; 32]] {

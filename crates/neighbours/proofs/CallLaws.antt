@@ -8,6 +8,7 @@ use Prim.Native.Nat.{ℕ, ◌+◌, ◌*◌, ◌≤◌, ◌<◌}
 use native.Mathlib.Nat.{zero-add}
 use native.Mathlib.Omega.{arith}
 use lib.ListN.{length, drop, length-append, length-take}
+use Rattle.std.specs.Prelude.{Result, Ok, Err}
 use borrow.Author.Tests.{not-false}
 use Rattle.octet.specs.Part.{splice}
 use Rattle.octet.proofs.PartLaws.{drop-splice}
@@ -23,12 +24,12 @@ use Rattle.kept.specs.Neighbours.{IsNeighbours, nearest_first}
 use Rattle.kept.specs.Plain.{NotOwn, neighbours, neighbour_list}
 use Rattle.kept.proofs.HistoryLaws.{neighbours-right, neighbours-only}
 use Rattle.kept.proofs.Demand3Laws.{plain-order}
-use Rattle.neighbours.specs.declared.listing.Listed.{Listed}
+use Rattle.neighbours.specs.declared.listing.Counts.{Counts}
 use Rattle.cache.specs.Form.{keys_of, cache_form}
 use Rattle.neighbours.specs.Listing.{key_bytes, after_list}
 use Rattle.neighbours.specs.Closest.{candidates, off_path, closest_of}
 use Rattle.cache.specs.Calls.{held_by}
-use Rattle.neighbours.specs.Calls.{Written, list_written, list_wrong, list_call, Shown, shown, closest_wrong, closest_call}
+use Rattle.neighbours.specs.Calls.{Written, list_number, list_counts, list_written, list_wrong, list_call, Shown, shown, closest_wrong, closest_call}
 use Rattle.cache.proofs.FormLaws.{true_form}
 use Rattle.neighbours.proofs.ListLaws.{keys_length}
 use Rattle.neighbours.proofs.ClosestLaws.{closest-among, closest-least, closest_only}
@@ -36,7 +37,7 @@ use Rattle.neighbours.proofs.SkipLaws.{off-held, off_empty}
 
 -- ---- one result
 
-pub list_coincides : (own cache key out : List ℕ) (a b : Listed) (s t : List ℕ) → list_written a s ≡ list_call own cache key out
+pub list_coincides : (own cache key out : List ℕ) (a b : Result Counts ℕ) (s t : List ℕ) → list_written a s ≡ list_call own cache key out
     → list_written b t ≡ list_call own cache key out → (a ≡ b) × (s ≡ t)
 list_coincides own cache key out a b s t p q =
     let e : list_written a s ≡ list_written b t = p ∙ sym q in (ap (λ (h : Written). h.answer) e, ap (λ (h : Written). h.output) e)
@@ -66,49 +67,48 @@ module _ (own cache key out : List ℕ) where
   list_done : Written
   list_done =
       list_written
-      (record {
-        number = 0;
+      (Ok (record {
         below = length (neighbours (key_at 0 key) below (keys_of (held_by own cache)));
         above = length (neighbours (key_at 0 key) above (keys_of (held_by own cache)));
-      })
+      }))
       (after_list (key_at 0 key) (held_by own cache) out)
 
   list_refused : ℕ → Written
-  list_refused n = list_written (record { number = n; below = 0; above = 0 }) out
+  list_refused n = list_written (Err n) out
 
-  pub list-does : (list_call own cache key out).answer.number ≡ 0
+  pub list-does : list_number (list_call own cache key out).answer ≡ 0
       → ((list_call own cache key out).output ≡ after_list (key_at 0 key) (held_by own cache) out)
-      × ((list_call own cache key out).answer.below ≡ length (neighbours (key_at 0 key) below (keys_of (held_by own cache))))
-      × ((list_call own cache key out).answer.above ≡ length (neighbours (key_at 0 key) above (keys_of (held_by own cache))))
+      × ((list_counts (list_call own cache key out).answer).below ≡ length (neighbours (key_at 0 key) below (keys_of (held_by own cache))))
+      × ((list_counts (list_call own cache key out).answer).above ≡ length (neighbours (key_at 0 key) above (keys_of (held_by own cache))))
   unfolding list_call list_done list_refused
   list-does e =
       let a = all_fail by_number (list_wrong own cache key out) 0 list-order
-      (sym (number_is (λ (h : Written). h.answer.number) list_refused (λ n. refl) list_done refl (list_wrong own cache key out)) ∙ e) in
+      (sym (number_is (λ (h : Written). list_number h.answer) list_refused (λ n. refl) list_done refl (list_wrong own cache key out)) ∙ e) in
       let d : list_call own cache key out ≡ list_done = all_pass list_refused (list_wrong own cache key out) list_done a in
-      (ap (λ (h : Written). h.output) d, ap (λ (h : Written). h.answer.below) d, ap (λ (h : Written). h.answer.above) d)
+      (ap (λ (h : Written). h.output) d, ap (λ (h : Written). (list_counts h.answer).below) d, ap (λ (h : Written). (list_counts h.answer).above) d)
 
-  list-lent : {W : Type 0} (w : Written → W) (lent : W) → ((n : ℕ) → w (list_refused n) ≡ lent) → 0 < (list_call own cache key out).answer.number
+  list-lent : {W : Type 0} (w : Written → W) (lent : W) → ((n : ℕ) → w (list_refused n) ≡ lent) → 0 < list_number (list_call own cache key out).answer
       → w (list_call own cache key out) ≡ lent
   unfolding list_call list_done list_refused
   list-lent w lent e p =
-      refusal-keeps (λ (h : Written). h.answer.number) list_refused (λ n. refl) list_done refl w lent e (list_wrong own cache key out) p
+      refusal-keeps (λ (h : Written). list_number h.answer) list_refused (λ n. refl) list_done refl w lent e (list_wrong own cache key out) p
 
   -- refused: nothing changes, and the counts are 0
-  pub list_keeps : 0 < (list_call own cache key out).answer.number
-      → ((list_call own cache key out).output ≡ out) × ((list_call own cache key out).answer.below ≡ 0) × ((list_call own cache key out).answer.above ≡ 0)
+  pub list_keeps : 0 < list_number (list_call own cache key out).answer
+      → ((list_call own cache key out).output ≡ out) × ((list_counts (list_call own cache key out).answer).below ≡ 0) × ((list_counts (list_call own cache key out).answer).above ≡ 0)
   unfolding list_refused
   list_keeps p = (
     list-lent (λ (h : Written). h.output) out (λ n. refl) p,
-    list-lent (λ (h : Written). h.answer.below) 0 (λ n. refl) p,
-    list-lent (λ (h : Written). h.answer.above) 0 (λ n. refl) p,
+    list-lent (λ (h : Written). (list_counts h.answer).below) 0 (λ n. refl) p,
+    list-lent (λ (h : Written). (list_counts h.answer).above) 0 (λ n. refl) p,
   )
 
   pub list_exactly : (n : ℕ) → 0 < n
-      → ((list_call own cache key out).answer.number ≡ n)
+      → (list_number (list_call own cache key out).answer ≡ n)
       ↔ ((applies_in n (list_wrong own cache key out) ≡ true) × ((m : ℕ) → m < n → applies_in m (list_wrong own cache key out) ≡ false))
   unfolding list_call list_done list_refused
   list_exactly n p =
-      call-exactly (λ (h : Written). h.answer.number) list_refused (λ n. refl) list_done refl (list_wrong own cache key out) 0 list-order n p
+      call-exactly (λ (h : Written). list_number h.answer) list_refused (λ n. refl) list_done refl (list_wrong own cache key out) 0 list-order n p
 
 -- the output changes in its first bytes only, 32 for each key listed
 pub list_rest : (own : ℕ) (recs : List (List ℕ)) (out : List ℕ) → 320 ≤ length out

@@ -12,16 +12,26 @@ use Rattle.cache.specs.Calls.{memory_wrong, key_wrong, held_by}
 use Rattle.neighbours.specs.Listing.{after_list, counts_of}
 use Rattle.neighbours.specs.Closest.{candidates, off_path, closest_of}
 use Rattle.neighbours.specs.Where.{record_at}
-use Rattle.neighbours.specs.declared.listing.Listed.{Listed}
+use Rattle.neighbours.specs.declared.listing.Counts.{Counts}
 use Rattle.neighbours.specs.declared.nearest.Spot.{Spot}
 use Rattle.neighbours.specs.declared.nearest.Spot.TheVariants.{Own, Held}
 
--- what the neighbour list hands back: the number and the counts, and the output
+-- what the neighbour list hands back: the counts, or the number that it is refused with, and the output
 pub record Written : Type 0 where
-  pub answer : Listed
+  pub answer : Result Counts ℕ
   pub output : List ℕ
 
-abbrev pub list_written : Listed → List ℕ → Written
+-- the number of an answer: 0 where it is not refused
+abbrev pub list_number : Result Counts ℕ → ℕ
+list_number (Err n) = n
+list_number (Ok c) = 0
+
+-- its counts: no keys where it is refused
+abbrev pub list_counts : Result Counts ℕ → Counts
+list_counts (Err n) = record { below = 0; above = 0 }
+list_counts (Ok c) = c
+
+abbrev pub list_written : Result Counts ℕ → List ℕ → Written
 list_written a out = record { answer = a; output = out }
 
 abbrev pub list_wrong : (own cache key out : List ℕ) → List Refusal
@@ -30,9 +40,8 @@ list_wrong own cache key out =
 
 unfoldable pub list_call : (own cache key out : List ℕ) → Written
 list_call own cache key out =
-    let counts = counts_of (key_at 0 key) (held_by own cache) in
-    or_refuse (λ (n : ℕ). list_written (record { number = n; below = 0; above = 0 }) out) (list_wrong own cache key out)
-    (list_written (record { number = 0; below = counts.below; above = counts.above }) (after_list (key_at 0 key) (held_by own cache) out))
+    or_refuse (λ (n : ℕ). list_written (Err n) out) (list_wrong own cache key out)
+    (list_written (Ok (counts_of (key_at 0 key) (held_by own cache))) (after_list (key_at 0 key) (held_by own cache) out))
 
 -- what the call for the closest record hands back: the number, and the record that is shown
 pub record Shown : Type 0 where

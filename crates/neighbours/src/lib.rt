@@ -6,5 +6,5 @@
 mod listing;
 mod nearest;
 
-pub use listing::{Counts, Listed, neighbour_list, neighbours};
+pub use listing::{Counts, neighbour_list, neighbours};
 pub use nearest::{Sighted, Spot, closest, closest_record, record_at};

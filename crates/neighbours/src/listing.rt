@@ -1,5 +1,5 @@
 // The neighbour list of an own key: up to five keys below it, then up to five above, nearest first.
-ghost use Rattle.std.specs.Prelude.{◌≡◌, reverse, ◌+◌, ◌*◌, ◌≤◌, min, length, take};
+ghost use Rattle.std.specs.Prelude.{◌≡◌, reverse, ◌+◌, ◌*◌, ◌≤◌, length, take};
 ghost use Rattle.octet.specs.Part.{splice};
 ghost use Rattle.key.specs.Number.{key_at};
 ghost use Rattle.table.specs.Rows.{rows};
@@ -14,20 +14,6 @@ ghost use Rattle.neighbours.specs.Calls.{list_written, list_call};
 pub struct Counts {
     pub below: usize,
     pub above: usize,
-}
-
-// The number that a neighbour list is answered with, and how many keys of each side are listed.
-#[derive(Clone, Copy)]
-pub struct Listed {
-    pub number: u32,
-    pub below: usize,
-    pub above: usize,
-}
-
-fn lesser(a: usize, b: usize) -> usize
-    ensures { result ≡ min a b }
-{
-    if a < b { a } else { b }
 }
 
 // Writes the keys of the n places before a place, counted round, to the output's start, the last first.
@@ -66,51 +52,30 @@ pub fn neighbours(key: &[u8], cache: &[u8], used: usize, out: &mut [u8]) -> Coun
 {
     let first = sides::count_under(key, cache, used);
     let under = sides::count_below(key, cache, used, first);
-    let below = lesser(5, under);
-    let above = lesser(5, used - under);
+    let below = usize::min(5, under);
+    let above = usize::min(5, used - under);
     keys_down(cache, used, first, below, out);
     keys_up(cache, used, first, above, out, 32 * below);
     Counts { below, above }
 }
 
-// The same for one of our own keys, on memory that nobody has tested. Gives 0, 1, 12 or 15, and the two counts; refused, it
-// changes nothing.
-pub fn neighbour_list(own: &[u8], cache: &[u8], key: &[u8], out: &mut [u8]) -> Listed
+// The same for one of our own keys, on memory that nobody has tested. Refused with 1, 12 or 15, it changes
+// nothing.
+pub fn neighbour_list(own: &[u8], cache: &[u8], key: &[u8], out: &mut [u8]) -> Result<Counts, u32>
     ensures { list_written result out.new
         ≡ list_call own.now cache.now key.now out.old }
 {
     let Some(used) = cache::memory(own, cache) else {
-        return Listed {
-            number: refusal::MEMORY,
-            below: 0,
-            above: 0,
-        };
+        return Err(refusal::MEMORY);
     };
     if key.len() != 32 {
-        return Listed {
-            number: refusal::MEMORY,
-            below: 0,
-            above: 0,
-        };
+        return Err(refusal::MEMORY);
     }
     if !own::is_own(own, key, 0) {
-        return Listed {
-            number: refusal::NOT_OURS,
-            below: 0,
-            above: 0,
-        };
+        return Err(refusal::NOT_OURS);
     }
     if out.len() < 320 {
-        return Listed {
-            number: refusal::ROOM,
-            below: 0,
-            above: 0,
-        };
+        return Err(refusal::ROOM);
     }
-    let counts = neighbours(key, cache, used, out);
-    Listed {
-        number: 0,
-        below: counts.below,
-        above: counts.above,
-    }
+    Ok(neighbours(key, cache, used, out))
 }

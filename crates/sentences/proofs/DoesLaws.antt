@@ -23,6 +23,7 @@ use Rattle.kept.specs.Keys.{◌∈◌, Rising, plain}
 use Rattle.kept.specs.Plain.{neighbours, neighbour_list}
 use Rattle.cache.specs.Form.{keys_of, held_in, held_of, cache_form}
 use Rattle.neighbours.specs.Listing.{key_bytes, counts_of, after_list}
+use Rattle.std.specs.Prelude.{Ok}
 use Rattle.neighbours.specs.Calls.{Written, list_written, list_wrong, list_call}
 use Rattle.cache.specs.Calls.{held_by}
 use Rattle.waiting.specs.Place.{id_of, tries_of, flood_place}
@@ -98,8 +99,7 @@ module _ (m : Memory) (l : Tick) (z : (gauge_tick m l).answer.number ≡ 0) wher
 module _ (m : Memory) (l : Listing) (z : (gauge_list m l).answer.number ≡ 0) where
   abbrev list_done : Written
   list_done =
-      let counts = counts_of (key_at 0 l.key) (held_by l.own m.cache) in
-      list_written (record { number = 0; below = counts.below; above = counts.above }) (after_list (key_at 0 l.key) (held_by l.own m.cache) l.output)
+      list_written (Ok (counts_of (key_at 0 l.key) (held_by l.own m.cache))) (after_list (key_at 0 l.key) (held_by l.own m.cache) l.output)
 
   list-is : gauge_list m l ≡ list_answered m list_done
   unfolding gauge_list list_call

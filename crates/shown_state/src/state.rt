@@ -54,10 +54,13 @@ fn write_neighbours<W: Write>(
 ) -> io::Result<()> {
     let mut room = [0u8; 320];
     let key = own.get(..32).unwrap_or(&[]);
-    let listed = neighbours::neighbour_list(own, cache, key, &mut room);
+    let (low, high) = match neighbours::neighbour_list(own, cache, key, &mut room) {
+        Ok(counts) => (counts.below, counts.above),
+        Err(_) => (0, 0),
+    };
     let (keys, _) = room.as_chunks::<32>();
-    let (below, behind) = keys.split_at_checked(listed.below).unwrap_or((&[], &[]));
-    let above = behind.get(..listed.above).unwrap_or(&[]);
+    let (below, behind) = keys.split_at_checked(low).unwrap_or((&[], &[]));
+    let above = behind.get(..high).unwrap_or(&[]);
     write_side(out, "below, the next keys down", names, below)?;
     write_side(out, "above, the next keys up", names, above)
 }

@@ -33,10 +33,18 @@ fn held(own: &[u8], cache: &[u8]) -> Option<usize> {
 }
 
 // The number, and with 0 the keys held.
-fn changed<W: Write>(number: u32, own: &[u8], cache: &[u8], out: &mut W) -> io::Result<()> {
-    write!(out, "{number}")?;
+fn changed<W: Write>(
+    done: Result<(), u32>,
+    own: &[u8],
+    cache: &[u8],
+    out: &mut W,
+) -> io::Result<()> {
+    if let Err(number) = done {
+        return write!(out, "{number}");
+    }
+    write!(out, "0")?;
     match held(own, cache) {
-        Some(count) if number == 0 => {
+        Some(count) => {
             let keys = Keys {
                 rows: cache,
                 count,
@@ -44,24 +52,25 @@ fn changed<W: Write>(number: u32, own: &[u8], cache: &[u8], out: &mut W) -> io::
             };
             write!(out, " {keys}")
         }
-        _ => Ok(()),
+        None => Ok(()),
     }
 }
 
 // The number, and with 0 the two counts and the keys.
 fn neighbours<W: Write>(own: &[u8], cache: &[u8], key: &[u8], out: &mut W) -> io::Result<()> {
     let mut room = [0u8; 320];
-    let listed = neighbours::neighbour_list(own, cache, key, &mut room);
-    let (number, below, above) = (listed.number, listed.below, listed.above);
-    if number != 0 {
-        return write!(out, "{number}");
+    match neighbours::neighbour_list(own, cache, key, &mut room) {
+        Ok(counts) => {
+            let (below, above) = (counts.below, counts.above);
+            let keys = Keys {
+                rows: &room,
+                count: below.saturating_add(above),
+                step: 32,
+            };
+            write!(out, "0 {below} {above} {keys}")
+        }
+        Err(number) => write!(out, "{number}"),
     }
-    let keys = Keys {
-        rows: &room,
-        count: below.saturating_add(above),
-        step: 32,
-    };
-    write!(out, "{number} {below} {above} {keys}")
 }
 
 // The number, and with 0 the record and how many keys were compared.
@@ -111,12 +120,12 @@ pub(crate) fn answer<W: Write>(line: &mut Line<'_>, out: &mut W) -> io::Result<b
             None => say::bad(out)?,
         },
         Asked::Learn => {
-            let number = cache::learn_record(own, cache, third);
-            changed(number, own, cache, out)?;
+            let done = cache::learn_record(own, cache, third);
+            changed(done, own, cache, out)?;
         }
         Asked::Remove => {
-            let number = cache::remove_key(own, cache, third);
-            changed(number, own, cache, out)?;
+            let done = cache::remove_key(own, cache, third);
+            changed(done, own, cache, out)?;
         }
         Asked::Neighbours => neighbours(own, cache, third, out)?,
         Asked::Closest => closest(own, cache, third, line.bytes(4), out)?,

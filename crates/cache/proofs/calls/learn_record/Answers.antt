@@ -4,6 +4,7 @@ use mathlib.Core.Path.{sym, ap, ◌∙◌}
 use mathlib.Core.Bool.{not}
 use mathlib.Core.List.{List, []}
 use Prim.Native.Nat.{ℕ}
+use Rattle.std.specs.Prelude.{Ok, Err}
 use lib.ListN.{length}
 use Rattle.record.specs.Record.{key_of, record_form}
 use Rattle.own.specs.Own.{own_keys, is_own}
@@ -20,12 +21,12 @@ use Rattle.cache.proofs.calls.learn_record.Goals as goal
 
 -- what a refusal hands back, and what is handed back where there is none
 abbrev refuse : Start → ℕ → Changed
-refuse s n = cache_changed n s.args.cache.now
+refuse s n = cache_changed (Err n) s.args.cache.now
 
 abbrev done : Start → Changed
 done s =
     let n = length s.args.cache.now in
-    cache_changed 0 (bytes_of n (after_learn (own_keys s.args.own.now) n (held_by s.args.own.now s.args.cache.now) s.args.«record».now))
+    cache_changed (Ok tt) (bytes_of n (after_learn (own_keys s.args.own.now) n (held_by s.args.own.now s.args.cache.now) s.args.«record».now))
 
 pub returns-in_default : goal.returns-in_default
 unfolding learn_call
@@ -75,7 +76,7 @@ returns c =
     let s = (goal.at.returns c).Start in
     let n = length s.args.cache.now in
     let held = memory-held s.args.own.now s.args.cache.now c.memory.ensures c.in-Some.is in
-    ap (cache_changed 0) (c.learn.ensures.cache_after ∙ ap (λ (l : List (List ℕ)). bytes_of n (after_learn (own_keys s.args.own.now) n l
+    ap (cache_changed (Ok tt)) (c.learn.ensures.cache_after ∙ ap (λ (l : List (List ℕ)). bytes_of n (after_learn (own_keys s.args.own.now) n l
     s.args.«record».now)) (sym held))
     ∙ sym (memory-passes s.args.own.now s.args.cache.now c.memory.ensures c.in-Some.is (refuse s) _ (done s)
     ∙ row_passes (refuse s) 1 (not (record_form s.args.«record».now)) _ (done s) (not_is (sym c.is_record.ensures ∙ c.if-not-is_record.false))

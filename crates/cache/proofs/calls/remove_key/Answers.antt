@@ -5,6 +5,7 @@ use mathlib.Core.Bool.{not}
 use mathlib.Core.List.{List, []}
 use Prim.Native.Nat.{ℕ}
 use lib.Dec.{eqb}
+use Rattle.std.specs.Prelude.{Ok, Err}
 use lib.ListN.{length}
 use borrow.Author.Tests.{eq-eqb, ne_eqb}
 use Rattle.key.specs.Number.{key_at}
@@ -19,11 +20,11 @@ use Rattle.cache.proofs.calls.remove_key.Goals as goal
 
 -- what a refusal hands back, and what is handed back where there is none
 abbrev refuse : Start → ℕ → Changed
-refuse s n = cache_changed n s.args.cache.now
+refuse s n = cache_changed (Err n) s.args.cache.now
 
 abbrev done : Start → Changed
 done s =
-    cache_changed 0
+    cache_changed (Ok tt)
     (bytes_of (length s.args.cache.now) (after_remove (key_at 0 s.args.key.now) (held_by s.args.own.now s.args.cache.now)))
 
 pub returns-in_default : goal.returns-in_default
@@ -50,7 +51,7 @@ returns c =
     let s = (goal.at.returns c).Start in
     let n = length s.args.cache.now in
     let held = memory-held s.args.own.now s.args.cache.now c.memory.ensures c.in-Some.is in
-    ap (cache_changed 0) (c.remove.ensures.cache_after ∙ ap (λ (l : List (List ℕ)). bytes_of n (after_remove (key_at 0 s.args.key.now) l))
+    ap (cache_changed (Ok tt)) (c.remove.ensures.cache_after ∙ ap (λ (l : List (List ℕ)). bytes_of n (after_remove (key_at 0 s.args.key.now) l))
     (sym held))
     ∙ sym (memory-passes s.args.own.now s.args.cache.now c.memory.ensures c.in-Some.is (refuse s) _ (done s)
     ∙ row_passes (refuse s) 1 (not (eqb (length s.args.key.now) 32)) [] (done s) (not_is (eq-eqb (length s.args.key.now) 32

@@ -6,6 +6,7 @@ use mathlib.Core.List.{List, [], ◌∷◌}
 use Prim.Native.Nat.{ℕ}
 use lib.Dec.{eqb, ltb}
 use lib.ListN.{length}
+use Rattle.std.specs.Prelude.{Ok, Err}
 use borrow.Author.Tests.{eq-eqb, ne_eqb, lt-ltb, le-ltb}
 use Rattle.refusal.specs.Table.{when, or_refuse}
 use Rattle.refusal.proofs.CallLaws.{row_applies, row_passes, no_row}
@@ -29,12 +30,11 @@ start m = (goal.at.After-memory m).Start
 
 -- what a refusal hands back, and what is handed back where there is none
 abbrev refuse : Start → ℕ → Written
-refuse s n = list_written (record { number = n; below = 0; above = 0 }) s.args.out.now
+refuse s n = list_written (Err n) s.args.out.now
 
 abbrev done : Start → Written
 done s =
-    let n = counts_of (key_at 0 s.args.key.now) (held_by s.args.own.now s.args.cache.now) in
-    list_written (record { number = 0; below = n.below; above = n.above })
+    list_written (Ok (counts_of (key_at 0 s.args.key.now) (held_by s.args.own.now s.args.cache.now)))
     (after_list (key_at 0 s.args.key.now) (held_by s.args.own.now s.args.cache.now) s.args.out.now)
 
 pub returns-in_default : goal.returns-in_default
@@ -104,10 +104,10 @@ returns-then-out-lt320 c =
     sym (ours k e.if-key-ne32.false (own_key e)
     ∙ row_applies (refuse (s k)) 15 (ltb (length (out k)) 320) [] (done (s k)) (lt-ltb (length (out k)) 320 c.if-out-lt320.true))
 
-pub neighbours-counts-requires : goal.neighbours-counts-requires
-neighbours-counts-requires c =
-    let e = (goal.at.neighbours-counts-requires c).Else-not-is_own in
-    let k = (goal.at.neighbours-counts-requires c).In-Some in
+pub neighbours-requires : goal.neighbours-requires
+neighbours-requires c =
+    let e = (goal.at.neighbours-requires c).Else-not-is_own in
+    let k = (goal.at.neighbours-requires c).In-Some in
     let f = memory-form (own k) (cache k) (tested k).memory.ensures k.in-Some.is in record {
       in_bounds = (omega (arith, e.if-key-ne32.false), c.if-out-lt320.false, (form_laid (own_keys (own k)) (used k) (cache k) f).room);
       rising = f.held.rising;
@@ -122,9 +122,9 @@ returns c =
     let e = (goal.at.returns c).Else-not-is_own in
     let k = (goal.at.returns c).In-Some in
     let held = memory-held (own k) (cache k) (tested k).memory.ensures k.in-Some.is in
-    ap₂ (λ (m : Counts) (l : List ℕ). list_written (record { number = 0; below = m.below; above = m.above }) l)
-    (n.neighbours-counts.ensures.value ∙ ap (counts_of (key_at 0 (key k))) (sym held))
-    (n.neighbours-counts.ensures.out_after ∙ ap (λ (l : List (List ℕ)). after_list (key_at 0 (key k)) l (out k)) (sym held))
+    ap₂ (λ (m : Counts) (l : List ℕ). list_written (Ok m) l)
+    (n.neighbours.ensures.value ∙ ap (counts_of (key_at 0 (key k))) (sym held))
+    (n.neighbours.ensures.out_after ∙ ap (λ (l : List (List ℕ)). after_list (key_at 0 (key k)) l (out k)) (sym held))
     ∙ sym (ours k e.if-key-ne32.false (own_key e)
     ∙ row_passes (refuse (s k)) 15 (ltb (length (out k)) 320) [] (done (s k)) (le-ltb (length (out k)) 320 at_room.if-out-lt320.false)
     ∙ no_row (refuse (s k)) (done (s k)))

@@ -54,13 +54,13 @@ keys_down-requires c =
     let w = under-most (goal.at.keys_down-requires c).After-count_below-under in (
       room s,
       first-most (goal.at.keys_down-requires c).After-count_under-first,
-      omega (arith, c.lesser-below.ensures),
-      omega (arith, c.lesser-below.ensures, s.requires.in_bounds.1),
+      omega (arith, c.min-below.ensures),
+      omega (arith, c.min-below.ensures, s.requires.in_bounds.1),
     )
 
 pub overflow_mul-below : goal.overflow_mul-below
 overflow_mul-below c =
-    omega (arith, c.lesser-below.ensures)
+    omega (arith, c.min-below.ensures)
 
 pub keys_up-requires : goal.keys_up-requires
 keys_up-requires c =
@@ -68,8 +68,8 @@ keys_up-requires c =
     let w = under-most (goal.at.keys_up-requires c).After-count_below-under in (
       room s,
       first-most (goal.at.keys_up-requires c).After-count_under-first,
-      omega (arith, c.lesser-above.ensures),
-      omega (arith, c.lesser-below.ensures, c.lesser-above.ensures, c.keys_down.auto.out, s.requires.in_bounds.1),
+      omega (arith, c.min-above.ensures),
+      omega (arith, c.min-below.ensures, c.min-above.ensures, c.keys_down.auto.out, s.requires.in_bounds.1),
     )
 
 pub returns : goal.returns
@@ -80,9 +80,9 @@ returns c =
     let key_bytes_lem : Bytes a.key.now = λ i. omega (arith, c.type_inv.key i) in
     let o : key_at 0 a.key.now < ring = key-lt 0 a.key.now key_bytes_lem s.requires.in_bounds.0 in record {
       value = near-counts (key_at 0 a.key.now) a.used a.cache.now s.requires.rising s.requires.every o bytes (room s) c.count_under-first.result c.count_below-under.result
-          c.lesser-below.result c.lesser-above.result c.count_under-first.ensures c.count_below-under.ensures c.lesser-below.ensures c.lesser-above.ensures;
+          c.min-below.result c.min-above.result c.count_under-first.ensures c.count_below-under.ensures c.min-below.ensures c.min-above.ensures;
       out_after = near-out (key_at 0 a.key.now) a.used a.cache.now s.requires.rising s.requires.every o bytes (room s) c.count_under-first.result c.count_below-under.result
-          c.lesser-below.result c.lesser-above.result c.count_under-first.ensures c.count_below-under.ensures c.lesser-below.ensures c.lesser-above.ensures
+          c.min-below.result c.min-above.result c.count_under-first.ensures c.count_below-under.ensures c.min-below.ensures c.min-above.ensures
           a.out.now c.keys_down.new.out c.keys_up.new.out s.requires.in_bounds.1 c.keys_down.ensures
           c.keys_up.ensures;
     }

@@ -45,9 +45,7 @@ pub fn gauge_carry(
     ensures { carry_handed result output.new ≡ carry_call major authority.now
         (reading_of kind measure litres_in litres_out) output.old }
 {
-    let message = wire_read::read(authority, major);
-    let found = whole::whole_of(message);
-    match found {
+    match whole::read_whole(major, authority) {
         Err(number) => Carry {
             number,
             length: 0,
@@ -63,9 +61,7 @@ pub fn gauge_carry(
 pub fn gauge_carried(major: u8, datagram: &[u8]) -> Taken
     ensures { result ≡ take_call major datagram.now }
 {
-    let message = wire_read::read(datagram, major);
-    let found = whole::whole_of(message);
-    match found {
+    match whole::read_whole(major, datagram) {
         Err(number) => payload::nothing(number, 0),
         Ok(m) => payload::take_reading(major, datagram, m),
     }

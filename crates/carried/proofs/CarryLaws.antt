@@ -27,6 +27,7 @@ use Rattle.wire.proofs.PayloadLaws.{seen, payload-within}
 use Rattle.wire.proofs.Theorems.{payload_written, authority-is, authority-again}
 use Rattle.wire_read.specs.Answers.{read_in}
 use Rattle.wire_read.specs.Meaning.{message_of, number_of}
+use Rattle.wire_read.specs.Readers.{or_number}
 use Rattle.wire_read.specs.declared.Incoming.{Incoming}
 use Rattle.wire_read.specs.declared.Incoming.TheVariants as M
 use Rattle.wire_read.specs.declared.messages.Authority as T
@@ -84,6 +85,11 @@ whole_authority a m e = by (wanted_as a)
     by (is-refused n q) = other (sym (ap whole_of q) ∙ e)
     by (is-wanted x q) = q ∙ ap M.Authority (let z : Ok x ≡ Ok m = sym (ap whole_of q) ∙ e in cc)
     by (is-another w z t) = other (sym w ∙ e)
+
+-- an AUTHORITY is what its reader says, or the number of its refusal
+pub read-whole : (r : Result T.Authority ℕ) (a b : Incoming) → a ≡ b → or_number M.Authority r ≡ b → whole_of a ≡ r
+read-whole (Ok m) a b e f = ap whole_of (e ∙ sym f)
+read-whole (Err n) a b e f = ap whole_of (e ∙ sym f)
 
 -- ---- the calls, by what was read
 

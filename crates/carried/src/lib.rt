@@ -8,7 +8,7 @@ mod whole;
 ghost use Rattle.std.specs.Prelude.{◌≡◌};
 ghost use Rattle.readings.specs.Numbers.{reading_of};
 ghost use Rattle.readings.specs.Balance.{balance_of};
-ghost use Rattle.carried.specs.Carry.{carry_handed, carry_call};
+ghost use Rattle.carried.specs.Carry.{carry, carry_handed, carry_call};
 ghost use Rattle.carried.specs.Take.{take_call};
 
 // What writing a reading into an AUTHORITY answers: 01's number, how many bytes were written, 02's number.
@@ -32,6 +32,17 @@ pub struct Taken {
     pub litres_out: u32,
 }
 
+// What is answered of a datagram that is no AUTHORITY.
+fn unread(number: u32) -> Carry
+    ensures { result ≡ carry number 0 0 }
+{
+    Carry {
+        number,
+        length: 0,
+        reading: 0,
+    }
+}
+
 // The same AUTHORITY with this reading as its payload, at the start of the output.
 pub fn gauge_carry(
     major: u8,
@@ -45,12 +56,11 @@ pub fn gauge_carry(
     ensures { carry_handed result output.new ≡ carry_call major authority.now
         (reading_of kind measure litres_in litres_out) output.old }
 {
-    match whole::read_whole(major, authority) {
-        Err(number) => Carry {
-            number,
-            length: 0,
-            reading: 0,
-        },
+    if let Some(number) = whole::other_number(major, authority) {
+        return unread(number);
+    }
+    match wire_read::read_authority(authority) {
+        Err(number) => unread(u32::from(number)),
         Ok(m) => payload::put_reading(
             major, authority, m, kind, measure, litres_in, litres_out, output,
         ),
@@ -61,8 +71,11 @@ pub fn gauge_carry(
 pub fn gauge_carried(major: u8, datagram: &[u8]) -> Taken
     ensures { result ≡ take_call major datagram.now }
 {
-    match whole::read_whole(major, datagram) {
-        Err(number) => payload::nothing(number, 0),
+    if let Some(number) = whole::other_number(major, datagram) {
+        return payload::nothing(number, 0);
+    }
+    match wire_read::read_authority(datagram) {
+        Err(number) => payload::nothing(u32::from(number), 0),
         Ok(m) => payload::take_reading(major, datagram, m),
     }
 }

@@ -130,7 +130,7 @@ pub fn gauge_receive(
         own.now cpas.now major minor id nonce.now verdict key.now
         datagram.now output.old)) }
 {
-    if !own::own_form(own) {
+    if !gauge_plan::is_own_formed(own) {
         return gauge_commit::answer_of(refusal::MEMORY, 0, 0);
     }
     let head = Heading { major, minor, id };

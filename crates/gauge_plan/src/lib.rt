@@ -5,7 +5,7 @@
 mod memory;
 mod opening;
 
-pub use memory::{Fit, hands_fit, survey};
+pub use memory::{Fit, hands_fit, is_own_formed, survey};
 pub use opening::open_refusal;
 
 // What is to be done with a datagram received: numbers and places, never a part of a slice.

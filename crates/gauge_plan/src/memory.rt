@@ -1,5 +1,6 @@
 // Whether the memory that every call is lent is in form.
 ghost use Rattle.std.specs.Prelude.{◌≡◌};
+ghost use Rattle.own.specs.Own.{own_form};
 ghost use Rattle.gauge_plan.specs.Lent.{Memory, with_tables, Receive, handing};
 ghost use Rattle.gauge_plan.specs.Memory.{memory_of, comes_fit};
 
@@ -10,16 +11,28 @@ pub struct Fit {
     pub used: usize,
 }
 
+// Are the own records in form? One function for all that ask it of a call: put in their places it costs more than the calls.
+#[inline(never)]
+pub fn is_own_formed(own: &[u8]) -> bool
+    ensures { result ≡ own_form own.now }
+{
+    own::own_form(own)
+}
+
 // What is held, where own records, cache and waiting table are in form. Memory that is not lent may be any.
 pub fn survey(own: &[u8], cache: &[u8], waiting: &[u8]) -> Option<Fit>
     ensures { (m : Memory) → result
         ≡ memory_of own.now (with_tables cache.now waiting.now m) }
 {
-    if !own::own_form(own) {
+    if !is_own_formed(own) {
         return None;
     }
-    let held = cache::form(own, cache)?;
-    let used = waiting_form::form(own, waiting)?;
+    let Some(held) = cache::form(own, cache) else {
+        return None;
+    };
+    let Some(used) = waiting_form::form(own, waiting) else {
+        return None;
+    };
     Some(Fit { held, used })
 }
 

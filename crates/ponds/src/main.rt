@@ -19,8 +19,9 @@ const NAMES: usize = 65536;
 // So many readings are taken at most. Each has less than 2 ^ 32 litres in and out, so their sums stay below 2 ^ 64.
 const MOST: u64 = 0x1_0000_0000;
 
-// The readings, one after the other, up to the end of the input, and what they add up to. A proved loop has to end, and
-// nothing says that the input does: where as many were taken as can be, that is said.
+// The readings, one after the other, up to the end of the input, and what they add up to; what is said of one is written before
+// the next is read. A proved loop has to end, and nothing says that the input does: where as many were taken as can be, that is
+// said.
 fn write_each<R: Read, W: Write>(input: &mut R, out: &mut W, names: &[u8]) -> Result<Sums> {
     let mut room = [0u8; input::READING];
     let mut names = names.split(|b| *b == b'\n');
@@ -34,6 +35,7 @@ fn write_each<R: Read, W: Write>(input: &mut R, out: &mut W, names: &[u8]) -> Re
         let unseen = input::unseen(packed, found);
         let name = names.next().unwrap_or(&[]);
         line::write_found(out, name, number, found, unseen)?;
+        out.flush()?;
         sums.add(found, unseen);
         if !input::is_whole(packed) {
             return Ok(sums);
@@ -48,6 +50,7 @@ fn write_each<R: Read, W: Write>(input: &mut R, out: &mut W, names: &[u8]) -> Re
 
 fn write_all<R: Read, W: Write>(input: &mut R, out: &mut W, names: &[u8]) -> Result<()> {
     line::write_heading(out, names)?;
+    out.flush()?;
     write_each(input, out, names)?.write(out)?;
     out.flush()
 }

@@ -100,6 +100,7 @@ fn write_kept<R: Read, W: Write>(
 ) -> Result<()> {
     state::write_state(out, names, night.opening(), night.cache(), night.waiting())?;
     totals.write(out)?;
+    out.flush()?;
     night.say_end(&mut Words { out, names }, good)?;
     write_last(out, totals)
 }
@@ -121,6 +122,7 @@ fn write_end<R: Read, W: Write>(
     if good != 0 {
         return write_kept(out, names, good, night, totals);
     }
+    out.flush()?;
     night.say_end(&mut Words { out, names }, good)?;
     writeln!(
         out,
@@ -128,14 +130,16 @@ fn write_end<R: Read, W: Write>(
     )
 }
 
-// The records, one after the other, up to the end or the first bad one, and what is behind them. A proved loop has to end, and
-// nothing says that the input does; no input has so many records as this one can count.
+// The records, one after the other, up to the end or the first bad one, and what is behind them; what is said of each is written
+// before the next is read. A proved loop has to end, and nothing says that the input does; no input has so many records as this
+// one can count.
 fn show<R: Read + Drop, W: Write>(input: R, out: &mut W, names: Names<'_>) -> Result<()> {
     let mut night = Walk::begin(input);
     let mut totals = Totals::none();
     for at in 0..u64::MAX {
         night.next(at);
         write_one(out, names, at, &mut night, &mut totals)?;
+        out.flush()?;
         if night.is_last() {
             return write_end(out, names, at, &mut night, &totals);
         }

@@ -17,18 +17,21 @@ impl<'a, W: Write> Columns<'a, W> {
         self.taken
     }
 
-    // Blanks up to a column, if it is not reached.
+    // Blanks up to a column, if it is not reached, 80 at most.
     pub fn fill_to(&mut self, column: usize) -> io::Result<()> {
-        let width = column.saturating_sub(self.taken);
-        write!(self, "{:width$}", "")
+        let width = column.saturating_sub(self.taken).min(80);
+        self.write_all(&[b' '; 80][..width])
     }
 }
 
 impl<W: Write> Write for Columns<'_, W> {
     fn write(&mut self, bytes: &[u8]) -> io::Result<usize> {
         let written = self.out.write(bytes)?;
-        let characters = bytes.iter().take(written).filter(|b| **b / 64 != 2).count();
-        self.taken = self.taken.saturating_add(characters);
+        let mut taken = self.taken;
+        for byte in &bytes[..written.min(bytes.len())] {
+            taken = taken.wrapping_add(usize::from(*byte / 64 != 2));
+        }
+        self.taken = taken;
         Ok(written)
     }
 

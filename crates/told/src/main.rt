@@ -19,11 +19,11 @@ fn tell<R: Read + Drop, W: Write>(input: R, out: &mut W) -> io::Result<()> {
     for at in 0..u64::MAX {
         walk.next(at);
         walk.say(&mut Plain { out }, at)?;
+        out.flush()?;
         if walk.is_last() {
             walk.say_end(&mut Plain { out }, at)?;
             return out.flush();
         }
-        out.flush()?;
     }
     Ok(())
 }

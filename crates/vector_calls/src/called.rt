@@ -96,9 +96,10 @@ fn nearest(line: &Line<'_>, lent: &mut Lent) -> Answer {
     gauge::gauge_closest(given.own, lent.cache.bytes(), path, target)
 }
 
-// `find KEY`
+// `find KEY`. An operand behind the key, which no vector has, takes its room first.
 fn find(line: &Line<'_>, lent: &mut Lent) -> Answer {
     let mut given = lent.records.give(line.text);
+    given.line.bytes(2);
     gauge::gauge_search(given.own, lent.cache.bytes(), given.line.bytes(1))
 }
 

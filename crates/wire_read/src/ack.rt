@@ -17,7 +17,10 @@ pub fn read_ack(d: &[u8]) -> Option<Ack>
 {
     let c = Cursor { at: 12 };
     let (acked, c) = c.fixed(d, wire_numbers::ACKED, false, 4)?;
-    let (flags, c) = c.fixed_or_none(d, wire_numbers::FLAGS, false, wire_numbers::FLAGS_LEN)?;
+    let Some((flags, c)) = c.fixed_or_none(d, wire_numbers::FLAGS, false, wire_numbers::FLAGS_LEN)
+    else {
+        return None;
+    };
     if c.at != d.len() {
         return None;
     }

@@ -17,12 +17,25 @@ pub fn read_inquire(d: &[u8]) -> Option<Inquire>
     ensures { or_six M.Inquire result ≡ incoming_of d.now (found_of 7 (fields_as 7 inquire_kinds d.now)) }
 {
     let c = Cursor { at: 12 };
-    let (flags, c) = c.fixed(d, wire_numbers::FLAGS, true, 2)?;
-    let (validate, c) = c.fixed(d, wire_numbers::VALIDATE, false, 32)?;
-    let (nonce, c) = c.fixed_or_none(d, wire_numbers::NONCE, false, wire_numbers::NONCE_LEN)?;
-    let (credential, c) = c.any_or_none(d, wire_numbers::CREDENTIAL, false)?;
-    let (signature, c) = c.any_or_none(d, wire_numbers::SIGNATURE, false)?;
-    let (key, c) = c.any_or_none(d, wire_numbers::KEY_ID, false)?;
+    let Some((flags, c)) = c.fixed(d, wire_numbers::FLAGS, true, 2) else {
+        return None;
+    };
+    let Some((validate, c)) = c.fixed(d, wire_numbers::VALIDATE, false, 32) else {
+        return None;
+    };
+    let Some((nonce, c)) = c.fixed_or_none(d, wire_numbers::NONCE, false, wire_numbers::NONCE_LEN)
+    else {
+        return None;
+    };
+    let Some((credential, c)) = c.any_or_none(d, wire_numbers::CREDENTIAL, false) else {
+        return None;
+    };
+    let Some((signature, c)) = c.any_or_none(d, wire_numbers::SIGNATURE, false) else {
+        return None;
+    };
+    let Some((key, c)) = c.any_or_none(d, wire_numbers::KEY_ID, false) else {
+        return None;
+    };
     if c.at != d.len() {
         return None;
     }

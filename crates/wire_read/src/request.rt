@@ -17,20 +17,36 @@ pub fn read_request(d: &[u8]) -> Option<Request>
     ensures { or_six M.Request result ≡ incoming_of d.now (found_of 3 (fields_as 3 request_kinds d.now)) }
 {
     let c = Cursor { at: 12 };
-    let (flags, c) = c.fixed_or_none(d, wire_numbers::FLAGS, true, wire_numbers::FLAGS_LEN)?;
-    let (split, c) = c.fixed_or_none(d, wire_numbers::SPLIT, false, wire_numbers::SPLIT_LEN)?;
-    let (nonce, c) = c.fixed(d, wire_numbers::NONCE, false, 16)?;
-    let (keys, c) = c.array(
+    let Some((flags, c)) = c.fixed_or_none(d, wire_numbers::FLAGS, true, wire_numbers::FLAGS_LEN)
+    else {
+        return None;
+    };
+    let Some((split, c)) = c.fixed_or_none(d, wire_numbers::SPLIT, false, wire_numbers::SPLIT_LEN)
+    else {
+        return None;
+    };
+    let Some((nonce, c)) = c.fixed(d, wire_numbers::NONCE, false, 16) else {
+        return None;
+    };
+    let Some((keys, c)) = c.array(
         d,
         wire_numbers::KEYS,
         wire_numbers::KEY,
         wire_numbers::KEYS_EACH,
         0,
         wire_numbers::KEYS_MOST,
-    )?;
-    let (credential, c) = c.any_or_none(d, wire_numbers::CREDENTIAL, false)?;
-    let (signature, c) = c.any_or_none(d, wire_numbers::SIGNATURE, false)?;
-    let (key, c) = c.any_or_none(d, wire_numbers::KEY_ID, false)?;
+    ) else {
+        return None;
+    };
+    let Some((credential, c)) = c.any_or_none(d, wire_numbers::CREDENTIAL, false) else {
+        return None;
+    };
+    let Some((signature, c)) = c.any_or_none(d, wire_numbers::SIGNATURE, false) else {
+        return None;
+    };
+    let Some((key, c)) = c.any_or_none(d, wire_numbers::KEY_ID, false) else {
+        return None;
+    };
     if c.at != d.len() {
         return None;
     }

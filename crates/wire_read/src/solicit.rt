@@ -16,7 +16,9 @@ pub fn read_solicit(d: &[u8]) -> Option<Solicit>
     ensures { or_six M.Solicit result ≡ incoming_of d.now (found_of 1 (fields_as 1 solicit_kinds d.now)) }
 {
     let c = Cursor { at: 12 };
-    let (entry, c) = c.entry_or_none(d)?;
+    let Some((entry, c)) = c.entry_or_none(d) else {
+        return None;
+    };
     let (nonce, c) = c.fixed(d, wire_numbers::HASHED, false, 20)?;
     if c.at != d.len() {
         return None;

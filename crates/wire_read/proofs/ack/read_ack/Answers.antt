@@ -17,13 +17,12 @@ returns-in_err-acked c =
       sym c.fixed.ensures ∙ c.in_err-acked.was,
     )
 
-pub returns-in_err-flags : goal.returns-in_err-flags
+pub returns-in_default : goal.returns-in_default
 unfolding incoming_of fields_as joined_fields sized places_at
-returns-in_err-flags c =
+returns-in_default c =
     rw (
-      c.from_residual-in_err-flags.ensures,
       sym c.fixed.ensures ∙ c.in_ok-acked.was,
-      sym c.fixed_or_none.ensures ∙ c.in_err-flags.was,
+      sym c.fixed_or_none.ensures ∙ c.in_default.is,
     )
 
 pub returns-then-c-d : goal.returns-then-c-d
@@ -31,7 +30,7 @@ unfolding incoming_of fields_as joined_fields sized places_at
 returns-then-c-d c =
     rw (
       sym c.fixed.ensures ∙ c.in_ok-acked.was,
-      sym c.fixed_or_none.ensures ∙ c.in_ok-flags.was,
+      sym c.fixed_or_none.ensures ∙ c.in-Some.is,
       ne_eqb _ _ c.if-c-d.true,
     )
 
@@ -46,7 +45,7 @@ unfolding incoming_of fields_as joined_fields sized places_at
 returns c =
     rw (
       sym c.fixed.ensures ∙ c.in_ok-acked.was,
-      sym c.fixed_or_none.ensures ∙ c.in_ok-flags.was,
+      sym c.fixed_or_none.ensures ∙ c.in-Some.is,
       eq-eqb _ _ c.if-c-d.false,
       c.head.ensures,
       c.read_u32.ensures,

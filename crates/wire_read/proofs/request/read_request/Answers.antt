@@ -9,112 +9,103 @@ use Rattle.wire_fields.proofs.RefusalLaws.{split_value, maybe-four, sized_four}
 use Rattle.wire_read.specs.Answers.{incoming_of}
 use Rattle.wire_read.proofs.request.read_request.Goals as goal
 
-pub returns-in_err-flags : goal.returns-in_err-flags
+pub returns-in_default : goal.returns-in_default
 unfolding incoming_of fields_as joined_fields sized places_at
-returns-in_err-flags c =
+returns-in_default c =
+    rw (sym c.fixed_or_none.ensures ∙ c.in_default.is)
+
+pub returns-in_default-fixed_or_none : goal.returns-in_default-fixed_or_none
+unfolding incoming_of fields_as joined_fields sized places_at
+returns-in_default-fixed_or_none c =
     rw (
-      c.from_residual.ensures,
-      sym c.fixed_or_none.ensures ∙ c.in_err-flags.was,
+      sym c.fixed_or_none.ensures ∙ c.in-Some.is,
+      sym c.fixed_or_none-2.ensures ∙ c.in_default-fixed_or_none.is,
     )
 
-pub returns-in_err-split : goal.returns-in_err-split
+pub returns-in_default-fixed : goal.returns-in_default-fixed
 unfolding incoming_of fields_as joined_fields sized places_at
-returns-in_err-split c =
+returns-in_default-fixed c =
     rw (
-      c.from_residual-in_err-split.ensures,
-      sym c.fixed_or_none.ensures ∙ c.in_ok-flags.was,
-      sym c.fixed_or_none-2.ensures ∙ c.in_err-split.was,
+      sym c.fixed_or_none.ensures ∙ c.in-Some.is,
+      sym c.fixed_or_none-2.ensures ∙ c.in-Some-fixed_or_none.is,
+      sym c.fixed.ensures ∙ c.in_default-fixed.is,
     )
 
-pub returns-in_err-nonce : goal.returns-in_err-nonce
+pub returns-in_default-array : goal.returns-in_default-array
 unfolding incoming_of fields_as joined_fields sized places_at
-returns-in_err-nonce c =
+returns-in_default-array c =
     rw (
-      c.from_residual-in_err-nonce.ensures,
-      sym c.fixed_or_none.ensures ∙ c.in_ok-flags.was,
-      sym c.fixed_or_none-2.ensures ∙ c.in_ok-split.was,
-      sym c.fixed.ensures ∙ c.in_err-nonce.was,
+      sym c.fixed_or_none.ensures ∙ c.in-Some.is,
+      sym c.fixed_or_none-2.ensures ∙ c.in-Some-fixed_or_none.is,
+      sym c.fixed.ensures ∙ c.in-Some-fixed.is,
+      sym c.array.ensures ∙ c.in_default-array.is,
     )
 
-pub returns-in_err-keys : goal.returns-in_err-keys
+pub returns-in_default-any_or_none : goal.returns-in_default-any_or_none
 unfolding incoming_of fields_as joined_fields sized places_at
-returns-in_err-keys c =
+returns-in_default-any_or_none c =
     rw (
-      c.from_residual-in_err-keys.ensures,
-      sym c.fixed_or_none.ensures ∙ c.in_ok-flags.was,
-      sym c.fixed_or_none-2.ensures ∙ c.in_ok-split.was,
-      sym c.fixed.ensures ∙ c.in_ok-nonce.was,
-      sym c.array.ensures ∙ c.in_err-keys.was,
+      sym c.fixed_or_none.ensures ∙ c.in-Some.is,
+      sym c.fixed_or_none-2.ensures ∙ c.in-Some-fixed_or_none.is,
+      sym c.fixed.ensures ∙ c.in-Some-fixed.is,
+      sym c.array.ensures ∙ c.in-Some-array.is,
+      sym c.any_or_none.ensures ∙ c.in_default-any_or_none.is,
     )
 
-pub returns-in_err-credential : goal.returns-in_err-credential
+pub returns-in_default-any_or_none-2 : goal.returns-in_default-any_or_none-2
 unfolding incoming_of fields_as joined_fields sized places_at
-returns-in_err-credential c =
+returns-in_default-any_or_none-2 c =
     rw (
-      c.from_residual-in_err-credential.ensures,
-      sym c.fixed_or_none.ensures ∙ c.in_ok-flags.was,
-      sym c.fixed_or_none-2.ensures ∙ c.in_ok-split.was,
-      sym c.fixed.ensures ∙ c.in_ok-nonce.was,
-      sym c.array.ensures ∙ c.in_ok-keys.was,
-      sym c.any_or_none.ensures ∙ c.in_err-credential.was,
+      sym c.fixed_or_none.ensures ∙ c.in-Some.is,
+      sym c.fixed_or_none-2.ensures ∙ c.in-Some-fixed_or_none.is,
+      sym c.fixed.ensures ∙ c.in-Some-fixed.is,
+      sym c.array.ensures ∙ c.in-Some-array.is,
+      sym c.any_or_none.ensures ∙ c.in-Some-any_or_none.is,
+      sym c.any_or_none-2.ensures ∙ c.in_default-any_or_none-2.is,
     )
 
-pub returns-in_err-signature : goal.returns-in_err-signature
+pub returns-in_default-any_or_none-3 : goal.returns-in_default-any_or_none-3
 unfolding incoming_of fields_as joined_fields sized places_at
-returns-in_err-signature c =
+returns-in_default-any_or_none-3 c =
     rw (
-      c.from_residual-in_err-signature.ensures,
-      sym c.fixed_or_none.ensures ∙ c.in_ok-flags.was,
-      sym c.fixed_or_none-2.ensures ∙ c.in_ok-split.was,
-      sym c.fixed.ensures ∙ c.in_ok-nonce.was,
-      sym c.array.ensures ∙ c.in_ok-keys.was,
-      sym c.any_or_none.ensures ∙ c.in_ok-credential.was,
-      sym c.any_or_none-2.ensures ∙ c.in_err-signature.was,
-    )
-
-pub returns-in_err-key : goal.returns-in_err-key
-unfolding incoming_of fields_as joined_fields sized places_at
-returns-in_err-key c =
-    rw (
-      c.from_residual-in_err-key.ensures,
-      sym c.fixed_or_none.ensures ∙ c.in_ok-flags.was,
-      sym c.fixed_or_none-2.ensures ∙ c.in_ok-split.was,
-      sym c.fixed.ensures ∙ c.in_ok-nonce.was,
-      sym c.array.ensures ∙ c.in_ok-keys.was,
-      sym c.any_or_none.ensures ∙ c.in_ok-credential.was,
-      sym c.any_or_none-2.ensures ∙ c.in_ok-signature.was,
-      sym c.any_or_none-3.ensures ∙ c.in_err-key.was,
+      sym c.fixed_or_none.ensures ∙ c.in-Some.is,
+      sym c.fixed_or_none-2.ensures ∙ c.in-Some-fixed_or_none.is,
+      sym c.fixed.ensures ∙ c.in-Some-fixed.is,
+      sym c.array.ensures ∙ c.in-Some-array.is,
+      sym c.any_or_none.ensures ∙ c.in-Some-any_or_none.is,
+      sym c.any_or_none-2.ensures ∙ c.in-Some-any_or_none-2.is,
+      sym c.any_or_none-3.ensures ∙ c.in_default-any_or_none-3.is,
     )
 
 pub returns-then-c-d : goal.returns-then-c-d
 unfolding incoming_of fields_as joined_fields sized places_at
 returns-then-c-d c =
     rw (
-      sym c.fixed_or_none.ensures ∙ c.in_ok-flags.was,
-      sym c.fixed_or_none-2.ensures ∙ c.in_ok-split.was,
-      sym c.fixed.ensures ∙ c.in_ok-nonce.was,
-      sym c.array.ensures ∙ c.in_ok-keys.was,
-      sym c.any_or_none.ensures ∙ c.in_ok-credential.was,
-      sym c.any_or_none-2.ensures ∙ c.in_ok-signature.was,
-      sym c.any_or_none-3.ensures ∙ c.in_ok-key.was,
+      sym c.fixed_or_none.ensures ∙ c.in-Some.is,
+      sym c.fixed_or_none-2.ensures ∙ c.in-Some-fixed_or_none.is,
+      sym c.fixed.ensures ∙ c.in-Some-fixed.is,
+      sym c.array.ensures ∙ c.in-Some-array.is,
+      sym c.any_or_none.ensures ∙ c.in-Some-any_or_none.is,
+      sym c.any_or_none-2.ensures ∙ c.in-Some-any_or_none-2.is,
+      sym c.any_or_none-3.ensures ∙ c.in-Some-any_or_none-3.is,
       ne_eqb _ _ c.if-c-d.true,
     )
 
 pub is_whole-requires : goal.is_whole-requires
 is_whole-requires c =
-    maybe-four c.args.d.now _ _ _ (Sized 4) sized_four _ _ (sym c.fixed_or_none-2.ensures ∙ c.in_ok-split.was)
+    maybe-four c.args.d.now _ _ _ (Sized 4) sized_four _ _ (sym c.fixed_or_none-2.ensures ∙ c.in-Some-fixed_or_none.is)
 
 pub returns-then-not-is_whole : goal.returns-then-not-is_whole
 unfolding incoming_of fields_as joined_fields sized places_at
 returns-then-not-is_whole c =
     rw (
-      sym c.fixed_or_none.ensures ∙ c.in_ok-flags.was,
-      sym c.fixed_or_none-2.ensures ∙ c.in_ok-split.was,
-      sym c.fixed.ensures ∙ c.in_ok-nonce.was,
-      sym c.array.ensures ∙ c.in_ok-keys.was,
-      sym c.any_or_none.ensures ∙ c.in_ok-credential.was,
-      sym c.any_or_none-2.ensures ∙ c.in_ok-signature.was,
-      sym c.any_or_none-3.ensures ∙ c.in_ok-key.was,
+      sym c.fixed_or_none.ensures ∙ c.in-Some.is,
+      sym c.fixed_or_none-2.ensures ∙ c.in-Some-fixed_or_none.is,
+      sym c.fixed.ensures ∙ c.in-Some-fixed.is,
+      sym c.array.ensures ∙ c.in-Some-array.is,
+      sym c.any_or_none.ensures ∙ c.in-Some-any_or_none.is,
+      sym c.any_or_none-2.ensures ∙ c.in-Some-any_or_none-2.is,
+      sym c.any_or_none-3.ensures ∙ c.in-Some-any_or_none-3.is,
       eq-eqb _ _ c.if-c-d.false,
       split_value,
       sym c.is_whole.ensures ∙ c.if-not-is_whole.true,
@@ -128,13 +119,13 @@ pub returns : goal.returns
 unfolding incoming_of fields_as joined_fields sized places_at
 returns c =
     rw (
-      sym c.fixed_or_none.ensures ∙ c.in_ok-flags.was,
-      sym c.fixed_or_none-2.ensures ∙ c.in_ok-split.was,
-      sym c.fixed.ensures ∙ c.in_ok-nonce.was,
-      sym c.array.ensures ∙ c.in_ok-keys.was,
-      sym c.any_or_none.ensures ∙ c.in_ok-credential.was,
-      sym c.any_or_none-2.ensures ∙ c.in_ok-signature.was,
-      sym c.any_or_none-3.ensures ∙ c.in_ok-key.was,
+      sym c.fixed_or_none.ensures ∙ c.in-Some.is,
+      sym c.fixed_or_none-2.ensures ∙ c.in-Some-fixed_or_none.is,
+      sym c.fixed.ensures ∙ c.in-Some-fixed.is,
+      sym c.array.ensures ∙ c.in-Some-array.is,
+      sym c.any_or_none.ensures ∙ c.in-Some-any_or_none.is,
+      sym c.any_or_none-2.ensures ∙ c.in-Some-any_or_none-2.is,
+      sym c.any_or_none-3.ensures ∙ c.in-Some-any_or_none-3.is,
       eq-eqb _ _ c.if-c-d.false,
       split_value,
       sym c.is_whole.ensures ∙ c.if-not-is_whole.false,

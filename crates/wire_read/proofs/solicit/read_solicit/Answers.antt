@@ -7,20 +7,17 @@ use Rattle.wire_fields.specs.Reading.{places_at, fields_as}
 use Rattle.wire_read.specs.Answers.{incoming_of}
 use Rattle.wire_read.proofs.solicit.read_solicit.Goals as goal
 
-pub returns-in_err-entry : goal.returns-in_err-entry
+pub returns-in_default : goal.returns-in_default
 unfolding incoming_of fields_as joined_fields sized places_at
-returns-in_err-entry c =
-    rw (
-      c.from_residual.ensures,
-      sym c.entry_or_none.ensures ∙ c.in_err-entry.was,
-    )
+returns-in_default c =
+    rw (sym c.entry_or_none.ensures ∙ c.in_default.is)
 
 pub returns-in_err-nonce : goal.returns-in_err-nonce
 unfolding incoming_of fields_as joined_fields sized places_at
 returns-in_err-nonce c =
     rw (
-      c.from_residual-in_err-nonce.ensures,
-      sym c.entry_or_none.ensures ∙ c.in_ok-entry.was,
+      c.from_residual.ensures,
+      sym c.entry_or_none.ensures ∙ c.in-Some.is,
       sym c.fixed.ensures ∙ c.in_err-nonce.was,
     )
 
@@ -28,7 +25,7 @@ pub returns-then-c-d : goal.returns-then-c-d
 unfolding incoming_of fields_as joined_fields sized places_at
 returns-then-c-d c =
     rw (
-      sym c.entry_or_none.ensures ∙ c.in_ok-entry.was,
+      sym c.entry_or_none.ensures ∙ c.in-Some.is,
       sym c.fixed.ensures ∙ c.in_ok-nonce.was,
       ne_eqb _ _ c.if-c-d.true,
     )
@@ -37,7 +34,7 @@ pub returns : goal.returns
 unfolding incoming_of fields_as joined_fields sized places_at
 returns c =
     rw (
-      sym c.entry_or_none.ensures ∙ c.in_ok-entry.was,
+      sym c.entry_or_none.ensures ∙ c.in-Some.is,
       sym c.fixed.ensures ∙ c.in_ok-nonce.was,
       eq-eqb _ _ c.if-c-d.false,
       c.head.ensures,

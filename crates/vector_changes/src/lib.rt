@@ -4,7 +4,7 @@
 
 use gauge_commit::Answer;
 use std::io::{self, Write};
-use vector_text::line::Line;
+use vector_text::line::Rooms;
 use vector_text::say;
 
 // The longest output that a line has: 512 changes of 101 bytes.
@@ -13,10 +13,13 @@ const OUTPUT: usize = 51712;
 const NAMES: [(&str, ()); 1] = [("changes", ())];
 
 // What the call answers, what it has written, and whether the rest of the output is as it was.
-fn told<W: Write>(line: &mut Line<'_>, output: &mut [u8], out: &mut W) -> io::Result<()> {
-    let own = line.bytes(1);
-    let before = line.bytes(2);
-    let after = line.bytes(3);
+fn told<W: Write>(
+    own: &[u8],
+    before: &[u8],
+    after: &[u8],
+    output: &mut [u8],
+    out: &mut W,
+) -> io::Result<()> {
     let Answer {
         number,
         first,
@@ -27,13 +30,17 @@ fn told<W: Write>(line: &mut Line<'_>, output: &mut [u8], out: &mut W) -> io::Re
 }
 
 // `changes OWN BEFORE AFTER ROOM`; false for a line of another name.
-pub fn answer<W: Write>(line: &mut Line<'_>, out: &mut W) -> io::Result<bool> {
+pub fn answer<W: Write>(text: &[u8], rooms: &mut Rooms, out: &mut W) -> io::Result<bool> {
+    let mut line = rooms.line(text);
     if line.named(&NAMES).is_none() {
         return Ok(false);
     }
+    let own = line.bytes(1);
+    let before = line.bytes(2);
+    let after = line.bytes(3);
     let mut room = [0xEEu8; OUTPUT];
     match room.get_mut(..line.place(4)) {
-        Some(output) => told(line, output, out)?,
+        Some(output) => told(own, before, after, output, out)?,
         None => say::outside(out)?,
     }
     Ok(true)

@@ -1,6 +1,6 @@
 // Vectors of numbers at a place, read in both byte orders, and of tests on slices.
 use std::io::{self, Write};
-use vector_text::line::Line;
+use vector_text::line::{Line, Rooms};
 use vector_text::say;
 
 #[derive(Clone, Copy)]
@@ -43,8 +43,8 @@ fn number_at(asked: Asked, s: &[u8], at: usize) -> Option<u64> {
     }
 }
 
-fn number<W: Write>(asked: Asked, line: &mut Line<'_>, out: &mut W) -> io::Result<()> {
-    match number_at(asked, line.bytes(2), line.place(1)) {
+fn number<W: Write>(asked: Asked, s: &[u8], at: usize, out: &mut W) -> io::Result<()> {
+    match number_at(asked, s, at) {
         Some(number) => write!(out, "{number}"),
         None => say::outside(out),
     }
@@ -58,22 +58,29 @@ fn zero_words(s: &[u8], at: usize, n: usize) -> Option<bool> {
     Some(octet::zero_words(s, at, n))
 }
 
+// The third operand has the bytes of `zero-words`, which is told apart before any is laid.
+fn words<W: Write>(line: &mut Line<'_>, out: &mut W) -> io::Result<()> {
+    match zero_words(line.bytes(3), line.place(1), line.place(2)) {
+        Some(zero) => say::yes(zero, out),
+        None => say::outside(out),
+    }
+}
+
 // `equal BYTES BYTES`, `zero BYTES`: the tests on whole slices.
-pub(crate) fn answer<W: Write>(line: &mut Line<'_>, out: &mut W) -> io::Result<bool> {
-    let Some(asked) = line.named(&NAMES) else {
-        return Ok(false);
-    };
+pub(crate) fn answer<W: Write>(text: &[u8], rooms: &mut Rooms, out: &mut W) -> io::Result<bool> {
+    let mut line = rooms.line(text);
+    let asked = line.named(&NAMES);
+    if let Some(Asked::ZeroWords) = asked {
+        words(&mut line, out)?;
+        return Ok(true);
+    }
+    let first = line.bytes(1);
+    let second = line.aside(2);
     match asked {
-        Asked::Equal => {
-            let equal = octet::equal(line.bytes(1), line.aside(2));
-            say::yes(equal, out)?;
-        }
-        Asked::Zero => say::yes(octet::is_zero(line.bytes(1)), out)?,
-        Asked::ZeroWords => match zero_words(line.bytes(3), line.place(1), line.place(2)) {
-            Some(zero) => say::yes(zero, out)?,
-            None => say::outside(out)?,
-        },
-        _ => number(asked, line, out)?,
+        None => return Ok(false),
+        Some(Asked::Equal) => say::yes(octet::equal(first, second), out)?,
+        Some(Asked::Zero) => say::yes(octet::is_zero(first), out)?,
+        Some(asked) => number(asked, second, line.place(1), out)?,
     }
     Ok(true)
 }

@@ -3,7 +3,7 @@
 use key::Key;
 use std::cmp::Ordering;
 use std::io::{self, Write};
-use vector_text::line::Line;
+use vector_text::line::Rooms;
 use vector_text::say::{self, Wide};
 
 #[derive(Clone, Copy)]
@@ -27,7 +27,8 @@ const NAMES: [(&str, Asked); 7] = [
     ("closer", Asked::Closer),
 ];
 
-// An operand as it lies in 32 bytes, 0 behind it where it has fewer, and as a key; 0 where it has not 32 bytes.
+// An operand as it lies in the first 32 bytes of its room, with what lay there before behind it where it has fewer; and as a
+// key, 0 where it has not 32 bytes.
 #[derive(Clone, Copy)]
 struct Operand {
     bytes: [u8; 32],
@@ -35,14 +36,14 @@ struct Operand {
 }
 
 impl Operand {
-    fn of(line: &mut Line<'_>, i: usize) -> Operand {
-        let given = line.peek(i);
+    // Of an operand of so many bytes.
+    fn of(room: &[u8], len: usize) -> Operand {
         let mut bytes = [0; 32];
-        for (byte, as_given) in bytes.iter_mut().zip(given.iter()) {
-            *byte = *as_given;
+        for (byte, laid) in bytes.iter_mut().zip(room.iter()) {
+            *byte = *laid;
         }
-        let key = if given.len() == 32 {
-            key::key_at(given, 0)
+        let key = if len == 32 {
+            key::key_at(&bytes, 0)
         } else {
             Key {
                 a: 0,
@@ -52,6 +53,16 @@ impl Operand {
             }
         };
         Operand { bytes, key }
+    }
+
+    fn in_room(text: &[u8], rooms: &mut Rooms, i: usize) -> Operand {
+        let len = rooms.line(text).bytes(i).len();
+        Operand::of(&rooms.room, len)
+    }
+
+    fn aside(text: &[u8], rooms: &mut Rooms, i: usize) -> Operand {
+        let len = rooms.line(text).aside(i).len();
+        Operand::of(&rooms.side, len)
     }
 }
 
@@ -84,12 +95,12 @@ fn say_key<W: Write>(key: Key, out: &mut W) -> io::Result<()> {
 
 // Of two keys: their order, their differences, whether they are the same, and how they lie. `above OWN KEY`: is the key
 // above our own?
-pub(crate) fn answer<W: Write>(line: &mut Line<'_>, out: &mut W) -> io::Result<bool> {
-    let Some(asked) = line.named(&NAMES) else {
+pub(crate) fn answer<W: Write>(text: &[u8], rooms: &mut Rooms, out: &mut W) -> io::Result<bool> {
+    let x = Operand::in_room(text, rooms, 1);
+    let y = Operand::aside(text, rooms, 2);
+    let Some(asked) = rooms.line(text).named(&NAMES) else {
         return Ok(false);
     };
-    let x = Operand::of(line, 1);
-    let y = Operand::of(line, 2);
     match asked {
         Asked::Order => order(&x, &y, out)?,
         Asked::Differ => say_key(key::difference(x.key, y.key), out)?,
@@ -97,7 +108,10 @@ pub(crate) fn answer<W: Write>(line: &mut Line<'_>, out: &mut W) -> io::Result<b
         Asked::Far => say_key(ring::how_far(x.key, y.key), out)?,
         Asked::Same => say::yes(key::is_same(x.key, y.key), out)?,
         Asked::Above => say::yes(ring::is_above(&x.bytes, &y.bytes, 0), out)?,
-        Asked::Closer => say::yes(closer(x.key, y.key, Operand::of(line, 3).key), out)?,
+        Asked::Closer => say::yes(
+            closer(x.key, y.key, Operand::in_room(text, rooms, 3).key),
+            out,
+        )?,
     }
     Ok(true)
 }

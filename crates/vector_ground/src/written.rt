@@ -1,7 +1,7 @@
 // Vectors of what is written: numbers at a place, and runs copied, cleared, moved, inserted, removed. Each shows the bytes that are left.
 // One whose bytes do not lie within is no vector.
 use std::io::{self, Write};
-use vector_text::line::Line;
+use vector_text::line::{Line, Rooms};
 use vector_text::say::Hex;
 
 #[derive(Clone, Copy)]
@@ -92,25 +92,27 @@ fn remove(s: &mut [u8], at: usize, n: usize, end: usize) -> Option<()> {
 }
 
 // The operands of each: a place, a number, the bytes `s`, and one more, which is bytes or a number.
-fn act(asked: Asked, line: &mut Line<'_>, s: &mut [u8]) -> Option<()> {
+fn act(asked: Asked, line: &Line<'_>, s: &mut [u8], src: &[u8]) -> Option<()> {
     let at = line.place(1);
     let second = line.place(2);
     match asked {
-        Asked::Copied => copy(s, at, line.aside(4)),
+        Asked::Copied => copy(s, at, src),
         Asked::Clear => clear(s, at, second),
-        Asked::Insert => insert(s, at, second, line.aside(4)),
+        Asked::Insert => insert(s, at, second, src),
         Asked::Move => shift(s, at, second, line.place(4)),
         Asked::Remove => remove(s, at, second, line.place(4)),
         _ => put(asked, s, at, line.number(2)),
     }
 }
 
-pub(crate) fn answer<W: Write>(line: &mut Line<'_>, out: &mut W) -> io::Result<bool> {
+pub(crate) fn answer<W: Write>(text: &[u8], rooms: &mut Rooms, out: &mut W) -> io::Result<bool> {
+    let mut line = rooms.line(text);
+    let s = line.bytes(3);
+    let src = line.aside(4);
     let Some(asked) = line.named(&NAMES) else {
         return Ok(false);
     };
-    let s = line.bytes(3);
-    if act(asked, line, s).is_none() {
+    if act(asked, &line, s, src).is_none() {
         return Ok(false);
     }
     let left = Hex(s);

@@ -2,7 +2,7 @@
 use crate::searched::searches;
 use neighbours::Spot;
 use std::io::{self, Write};
-use vector_text::line::Line;
+use vector_text::line::Rooms;
 use vector_text::say::{self, Hex, Keys};
 
 #[derive(Clone, Copy)]
@@ -107,13 +107,15 @@ fn search<W: Write>(own: &[u8], cache: &[u8], key: &[u8], out: &mut W) -> io::Re
     write!(out, "{number} {place} {compared}")
 }
 
-pub(crate) fn answer<W: Write>(line: &mut Line<'_>, out: &mut W) -> io::Result<bool> {
-    let Some(asked) = line.named(&NAMES) else {
-        return Ok(false);
-    };
+pub(crate) fn answer<W: Write>(text: &[u8], rooms: &mut Rooms, out: &mut W) -> io::Result<bool> {
+    let mut line = rooms.line(text);
     let own: &[u8] = line.bytes(1);
     let cache = line.aside(2);
     let third: &[u8] = line.bytes(3);
+    let fourth: &[u8] = line.bytes(4);
+    let Some(asked) = line.named(&NAMES) else {
+        return Ok(false);
+    };
     match asked {
         Asked::Form => match held(own, cache) {
             Some(count) => write!(out, "{count}")?,
@@ -128,7 +130,7 @@ pub(crate) fn answer<W: Write>(line: &mut Line<'_>, out: &mut W) -> io::Result<b
             changed(done, own, cache, out)?;
         }
         Asked::Neighbours => neighbours(own, cache, third, out)?,
-        Asked::Closest => closest(own, cache, third, line.bytes(4), out)?,
+        Asked::Closest => closest(own, cache, third, fourth, out)?,
         Asked::Searches => searches(own, cache, out)?,
         Asked::Search => search(own, cache, third, out)?,
     }

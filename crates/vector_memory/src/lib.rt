@@ -7,9 +7,9 @@ mod searched;
 mod waits;
 
 use std::io::{self, Write};
-use vector_text::line::Line;
+use vector_text::line::Rooms;
 
 // The group of vectors that has the line's name answers; false where none has.
-pub fn answer<W: Write>(line: &mut Line<'_>, out: &mut W) -> io::Result<bool> {
-    Ok(cached::answer(line, out)? || waits::answer(line, out)?)
+pub fn answer<W: Write>(text: &[u8], rooms: &mut Rooms, out: &mut W) -> io::Result<bool> {
+    Ok(cached::answer(text, rooms, out)? || waits::answer(text, rooms, out)?)
 }

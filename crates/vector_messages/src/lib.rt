@@ -2,7 +2,7 @@
 #![tactic(auto)]
 
 use std::io::{self, Write};
-use vector_text::line::Line;
+use vector_text::line::Rooms;
 use vector_text::say::Hex;
 use wire_read::{Head, Incoming};
 
@@ -77,12 +77,13 @@ fn again<W: Write>(d: &[u8], major: u8, out: &mut W) -> io::Result<()> {
 }
 
 // The group of vectors that has the line's name answers; false where none has.
-pub fn answer<W: Write>(line: &mut Line<'_>, out: &mut W) -> io::Result<bool> {
+pub fn answer<W: Write>(text: &[u8], rooms: &mut Rooms, out: &mut W) -> io::Result<bool> {
+    let mut line = rooms.line(text);
+    let major = line.byte(1);
+    let d = line.bytes(2);
     let Some(asked) = line.named(&NAMES) else {
         return Ok(false);
     };
-    let major = line.byte(1);
-    let d = line.bytes(2);
     match asked {
         Asked::Read => read(d, major, out)?,
         Asked::Again => again(d, major, out)?,

@@ -5,6 +5,32 @@ ghost use Rattle.std.specs.Iterator.{at_most};
 
 use std::mem;
 
+// How many bytes of operands each of the two rooms has place for.
+const ROOM: usize = 65536;
+
+// Two rooms for the bytes of operands, those of one line after the other: what a line leaves in them, the next one finds.
+#[derive(Drop)]
+pub struct Rooms {
+    pub room: [u8; ROOM],
+    pub side: [u8; ROOM],
+}
+
+impl Rooms {
+    pub fn new() -> Rooms {
+        Rooms {
+            room: [0; ROOM],
+            side: [0; ROOM],
+        }
+    }
+
+    // A line that puts its operands from the start of the rooms on.
+    pub fn line<'a>(&'a mut self, text: &'a [u8]) -> Line<'a> {
+        let room = &mut self.room;
+        let side = &mut self.side;
+        Line { text, room, side }
+    }
+}
+
 // A line's text, without its end, and two rooms for the bytes of its operands, each with one behind the other.
 #[derive(Drop)]
 pub struct Line<'a> {
@@ -80,14 +106,6 @@ impl<'a> Line<'a> {
     // The bytes of an operand, kept from this line on.
     pub fn keep<const N: usize>(&self, i: usize, kept: &mut Kept<N>) {
         kept.len = put(self.operand(i), &mut kept.room);
-    }
-
-    // The bytes of an operand, where those of the next one will stand too.
-    pub fn peek(&mut self, i: usize) -> &[u8] {
-        let room = mem::take(&mut self.room);
-        let len = put(self.operand(i), room);
-        self.room = room;
-        &self.room[..len]
     }
 }
 

@@ -9,12 +9,10 @@ ghost use Rattle.std.specs.Prelude.{◌≤◌, length};
 use std::io::{self, Read, Write};
 use text::Roomy;
 use vector_lent::Lent;
-use vector_text::line::Line;
+use vector_text::line::Rooms;
 
-// Room for a line, and for the bytes of its operands.
+// Room for a line.
 const TEXT: usize = 131072;
-
-const ROOM: usize = 65536;
 
 // The next line of the input, without its end; one that is longer than the room is cut there. None where the input ends
 // within it.
@@ -34,13 +32,18 @@ fn next_line<'a, R: Read>(input: &mut R, room: &'a mut [u8]) -> Option<&'a [u8]>
 
 // A layer that has a vector of the name answers: these stand each by itself, and the last two act on what the lines before
 // them left.
-fn answer<W: Write>(line: &mut Line<'_>, lent: &mut Lent, out: &mut W) -> io::Result<()> {
-    let answered = vector_ground::answer(line, out)?
-        || vector_messages::answer(line, out)?
-        || vector_memory::answer(line, out)?
-        || vector_changes::answer(line, out)?
-        || vector_lent::answer(line, lent, out)?
-        || vector_calls::answer(line, lent, out)?;
+fn answer<W: Write>(
+    text: &[u8],
+    rooms: &mut Rooms,
+    lent: &mut Lent,
+    out: &mut W,
+) -> io::Result<()> {
+    let answered = vector_ground::answer(text, rooms, out)?
+        || vector_messages::answer(text, rooms, out)?
+        || vector_memory::answer(text, rooms, out)?
+        || vector_changes::answer(text, rooms, out)?
+        || vector_lent::answer(&rooms.line(text), lent, out)?
+        || vector_calls::answer(&rooms.line(text), lent, out)?;
     if answered {
         return Ok(());
     }
@@ -48,11 +51,16 @@ fn answer<W: Write>(line: &mut Line<'_>, lent: &mut Lent, out: &mut W) -> io::Re
 }
 
 // A heading is repeated; a vector is repeated and answered.
-fn one_line<W: Write>(mut line: Line<'_>, lent: &mut Lent, out: &mut W) -> io::Result<()> {
-    out.write_all(line.text)?;
-    if line.is_vector() {
+fn one_line<W: Write>(
+    text: &[u8],
+    rooms: &mut Rooms,
+    lent: &mut Lent,
+    out: &mut W,
+) -> io::Result<()> {
+    out.write_all(text)?;
+    if rooms.line(text).is_vector() {
         out.write_all(b" = ")?;
-        answer(&mut line, lent, out)?;
+        answer(text, rooms, lent, out)?;
     }
     out.write_all(b"\n")
 }
@@ -63,19 +71,13 @@ fn main(rt: HostRuntime) {
     let mut input = rt.stdin();
     let mut out = Roomy::new(rt.stdout());
     let mut text = [0u8; TEXT];
-    let mut room = [0u8; ROOM];
-    let mut side = [0u8; ROOM];
+    let mut rooms = Rooms::new();
     let mut lent = Lent::new();
     for _ in 0..u64::MAX {
         let Some(text) = next_line(&mut input, &mut text) else {
             return;
         };
-        let line = Line {
-            text,
-            room: &mut room,
-            side: &mut side,
-        };
-        if one_line(line, &mut lent, &mut out).is_err() || out.flush().is_err() {
+        if one_line(text, &mut rooms, &mut lent, &mut out).is_err() || out.flush().is_err() {
             return;
         }
     }

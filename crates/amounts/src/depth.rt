@@ -1,4 +1,5 @@
 // A depth as text: metres with millimetres, made of the bits by whole numbers, so that what is rounded is exact.
+use crate::number;
 use std::cmp::Ordering;
 use std::io::{self, Write};
 
@@ -28,8 +29,20 @@ fn nearest(parts: u64) -> u64 {
     }
 }
 
-// The depth of these bits, which are those of an allowed one, with the whole metres at the right end of a column. Negative
-// zero is 0.000.
+// The depth of these bits, which are those of an allowed one, up to a place in a line of blanks. Negative zero is 0.000.
+pub fn put(line: &mut [u8], end: usize, bits: u32) {
+    let millimetres = nearest(parts(bits));
+    let metres_end = end.saturating_sub(4);
+    if let Some(behind) = line.get_mut(metres_end..end) {
+        for (place, zero) in behind.iter_mut().zip(b".000".iter()) {
+            *place = *zero;
+        }
+    }
+    number::put(line, end, millimetres % 1000);
+    number::put(line, metres_end, millimetres / 1000);
+}
+
+// The same, with the whole metres at the right end of a column.
 pub fn write<W: Write>(out: &mut W, bits: u32, width: usize) -> io::Result<()> {
     let millimetres = nearest(parts(bits));
     write!(

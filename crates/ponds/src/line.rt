@@ -1,12 +1,27 @@
 // The line of a reading.
-use amounts::{balance, depth};
+use amounts::{balance, depth, number};
 use readings::{Measured, Reading};
 use std::io::{Result, Write};
 use text::Columns;
 
-// The columns of what was measured; the column behind which names stand, and the most bytes that a line has with one.
-const MEASURED: usize = 11;
+// Where the fields of a reading's line end: its number, of 20 digits at most; what was measured; litres in and out; their balance.
+const NUMBER: usize = 20;
 
+const MEASURED: usize = 33;
+
+const INFLOW: usize = 45;
+
+const OUTFLOW: usize = 57;
+
+const BALANCE: usize = 70;
+
+// Behind the balance that is one.
+const DEFICIT: &[u8; 9] = b"  deficit";
+
+// A number takes so many columns at least.
+const LEAST: usize = 7;
+
+// The column behind which names stand, and the most bytes that a line has with one.
 const NAMED: usize = 66;
 
 const MOST: usize = 160;
@@ -24,35 +39,39 @@ pub(crate) fn write_heading<W: Write>(out: &mut W, names: &[u8]) -> Result<()> {
     }
 }
 
-// A number at the right end of a column: in two pieces, where write! pads byte by byte.
-fn write_number<W: Write>(out: &mut Columns<'_, W>, number: u64, width: usize) -> Result<()> {
-    let mut digits = [0u8; 20];
-    let count = io::decimal(number, &mut digits);
-    let end = out.taken().saturating_add(width);
-    out.fill_to(end.saturating_sub(count))?;
-    out.write_all(&digits[..count])
-}
-
-// A depth in metres, or a fault with its number, in a column behind what the line has.
-fn write_measured<W: Write>(out: &mut Columns<'_, W>, measured: Measured) -> Result<()> {
-    let end = out.taken().saturating_add(MEASURED);
+// Behind two blanks a depth in metres, or a fault with its number.
+fn put_measured(line: &mut [u8; BALANCE], measured: Measured) -> Result<()> {
     match measured {
-        Measured::Depth(depth) => depth::write(out, readings::bits_of(depth), 2)?,
-        Measured::Fault(fault) => write!(out, "fault {fault}")?,
+        Measured::Depth(depth) => depth::put(line, NUMBER + 8, readings::bits_of(depth)),
+        Measured::Fault(fault) => {
+            let mut behind = &mut line[NUMBER + 2..MEASURED];
+            write!(behind, "fault {fault}")?;
+        }
     }
-    out.fill_to(end)
+    Ok(())
 }
 
-fn write_reading<W: Write>(out: &mut Columns<'_, W>, reading: Reading) -> Result<()> {
+// The line of a reading up to its name, put together in its fields and written in one piece. How many columns it takes.
+fn write_reading<W: Write>(out: &mut W, at: u64, reading: Reading) -> Result<usize> {
     let Reading {
         measured,
         inflow,
         outflow,
     } = reading;
-    write_measured(out, measured)?;
-    write_number(out, u64::from(inflow), 12)?;
-    write_number(out, u64::from(outflow), 12)?;
-    balance::write(out, inflow, outflow, 13)
+    let litres = readings::balance(inflow, outflow);
+    let mut line = [b' '; BALANCE];
+    let digits = number::put(&mut line, NUMBER, at);
+    put_measured(&mut line, measured)?;
+    number::put(&mut line, INFLOW, u64::from(inflow));
+    number::put(&mut line, OUTFLOW, u64::from(outflow));
+    balance::put(&mut line, BALANCE, litres);
+    let taken = BALANCE - NUMBER + digits.max(LEAST).min(NUMBER);
+    out.write_all(&line[BALANCE - taken..])?;
+    if litres < 0 {
+        out.write_all(DEFICIT)?;
+        return Ok(taken + DEFICIT.len());
+    }
+    Ok(taken)
 }
 
 // What the numbers of document 02, request 7, mean for a reading that is not taken.
@@ -64,32 +83,35 @@ pub(crate) fn meaning_of(number: u32) -> &'static str {
     }
 }
 
-// Its number, and how many bytes behind a wrong length were not looked at, if some were.
-fn write_refused<W: Write>(out: &mut W, number: u32, unseen: usize) -> Result<()> {
+// The line of what is refused up to its name: its number, that of the refusal, and how many bytes behind a wrong length were not
+// looked at, if some were. How many columns it takes.
+fn write_refused<W: Write>(out: &mut W, at: u64, number: u32, unseen: usize) -> Result<usize> {
     let meaning = meaning_of(number);
-    write!(out, "refused: {number} {meaning}")?;
-    if unseen == 0 {
-        return Ok(());
+    let mut line = Columns::of(out);
+    write!(line, "{at:>LEAST$}  refused: {number} {meaning}")?;
+    if 0 < unseen {
+        write!(line, "; bytes not looked at: {unseen}")?;
     }
-    write!(out, "; bytes not looked at: {unseen}")
+    Ok(line.taken())
 }
 
-// The name behind what a line has, under the others, and the line's end. For a name that is too long the line has no room, and
+// The name behind so many columns, under the others, and the line's end. For a name that is too long the line has no room, and
 // behind one that fills it no end.
-fn write_name<W: Write>(out: &mut Columns<'_, W>, name: &[u8]) -> Result<()> {
+fn write_name<W: Write>(out: &mut W, name: &[u8], taken: usize) -> Result<()> {
     if name.is_empty() {
-        return writeln!(out);
+        return out.write_all(b"\n");
     }
-    out.fill_to(NAMED)?;
-    write!(out, "  ")?;
-    let room = MOST.saturating_sub(out.taken());
+    let taken = taken.min(MOST);
+    let blanks = NAMED.saturating_sub(taken) + 2;
+    out.write_all(&[b' '; NAMED + 2][..blanks])?;
+    let room = MOST.saturating_sub(taken.max(NAMED) + 2);
     if name.len() <= room {
         out.write_all(name)?;
     }
     if name.len() == room {
         return Ok(());
     }
-    writeln!(out)
+    out.write_all(b"\n")
 }
 
 // What was found at a place, counted from 1, the name of that pond, and how many bytes were not looked at.
@@ -100,12 +122,9 @@ pub(crate) fn write_found<W: Write>(
     found: std::result::Result<Reading, u32>,
     unseen: usize,
 ) -> Result<()> {
-    let mut line = Columns::of(out);
-    write_number(&mut line, at, 7)?;
-    write!(line, "  ")?;
-    match found {
-        Ok(reading) => write_reading(&mut line, reading)?,
-        Err(number) => write_refused(&mut line, number, unseen)?,
-    }
-    write_name(&mut line, name)
+    let taken = match found {
+        Ok(reading) => write_reading(out, at, reading)?,
+        Err(number) => write_refused(out, at, number, unseen)?,
+    };
+    write_name(out, name, taken)
 }

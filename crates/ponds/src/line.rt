@@ -15,7 +15,7 @@ const OUTFLOW: usize = 57;
 
 const BALANCE: usize = 70;
 
-// Behind the balance that is one.
+// What a deficit is marked by, behind its balance.
 const DEFICIT: &[u8; 9] = b"  deficit";
 
 // A number takes so many columns at least.

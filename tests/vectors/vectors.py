@@ -1,8 +1,8 @@
 #!/usr/bin/env python3
-"""The vectors that the program `vectors` runs, and what it must write of them.
+"""The vectors that the programs `vectors` and `vector_rooms` run, and what they must write of them.
 
-    vectors.py --write    writes crates/vectors/stdin and crates/vectors/stdout
-    vectors.py --check    compares the two files with what is said here; a test of the gate
+    vectors.py --write    writes stdin and stdout of both, in crates/
+    vectors.py --check    compares the files with what is said here; a test of the gate
 
 The answers are made here, by whole numbers and slices of Python and from the documents. Nothing is taken from a run of the gauge.
 """
@@ -17,7 +17,8 @@ import vector_changes
 import vector_memory
 import vector_messages
 
-HERE = os.path.join(os.path.dirname(os.path.abspath(__file__)), "..", "..", "crates", "vectors")
+CRATES = os.path.join(os.path.dirname(os.path.abspath(__file__)), "..", "..", "crates")
+ANSWERS = 120  # the column behind which vector_rooms has its answers
 TOP = 2 ** 256 - 1
 HEADER = bytes.fromhex("001000 0C51")  # document 01: the first five bytes of every message
 
@@ -234,6 +235,32 @@ def closeness():
         yield from both_ways(target, (target + 3) % 2 ** 256, (target - 4) % 2 ** 256)
 
 
+def in_rooms():
+    """The vectors of `vector_rooms`: of each group whose functions take a line the first and the last of each name; some of 131,072 bytes, twice what
+    `vectors` has room for; and operands that are no keys, behind a line that leaves other bytes in the rooms. In hand each of these stands for 0; as they
+    lie, zeros follow those that are shorter."""
+    for group in (ground, vector_messages.vectors, vector_memory.vectors, vector_changes.vectors):
+        of_group = [v for v in group() if not isinstance(v, str)]
+        for ordered in (of_group[::-1], of_group):
+            yield from {v[0][0]: v for v in ordered}.values()
+    s = bytes(131071) + b"\1"
+    yield ("zero", s), yes(not any(s))
+    yield ("equal", s, s), "yes"
+    yield ("equal", s, bytes(131072)), "no"
+    for name, at in (("u16", 131070), ("u32-le", 131068)):
+        yield (name, at, s), read(name, at, s)
+    for at in (131056, 131064):
+        yield ("zero-words", at, 1, s), yes(not any(s[at:at + 8]))
+    yield ("equal", b"\xFF" * 99, b"\xFF" * 99), "yes"
+    for x, y in ((b"\1", b"\1\2"), (b"\1\2", b"\1\2\0"), (b"\2", b"\1"), (b"", b"")):
+        yield ("order", x, y), "same " + order(x.ljust(32, b"\0"), y.ljust(32, b"\0")).split()[1]
+        yield ("differ", x, y), key(0).hex()
+
+
+def line_of(operands):
+    return " ".join([operands[0]] + [hexed(o) for o in operands[1:]])
+
+
 def text():
     lines, answers = [], []
     for v in vectors():
@@ -242,10 +269,14 @@ def text():
             answers.append(v)
         else:
             operands, answer = v
-            line = " ".join([operands[0]] + [hexed(o) for o in operands[1:]])
-            lines.append(line)
-            answers.append(line + " = " + answer)
+            lines.append(line_of(operands))
+            answers.append(lines[-1] + " = " + answer)
     return "\n".join(lines) + "\n", "\n".join(answers) + "\n"
+
+
+def text_in_rooms():
+    lines = [(line_of(operands), answer) for operands, answer in in_rooms()]
+    return "".join(line + "\n" for line, _ in lines), "".join("%s = %s\n" % (line.ljust(ANSWERS), answer) for line, answer in lines)
 
 
 def main():
@@ -254,16 +285,17 @@ def main():
     for layer in (vector_messages, vector_memory, vector_calls, vector_changes):
         layer.check()  # by hand against the model, and nothing left out
     good = True
-    for name, wanted in zip(("stdin", "stdout"), text()):
-        path = os.path.join(HERE, name)
+    wanted = {"vectors": text(), "vector_rooms": text_in_rooms()}
+    for program, name, made in [(p, name, made) for p, files in wanted.items() for name, made in zip(("stdin", "stdout"), files)]:
+        path = os.path.join(CRATES, program, name)
         if sys.argv[1] == "--write":
             with open(path, "w") as f:
-                f.write(wanted)
-        elif open(path).read() != wanted:
-            print("crates/vectors/%s is not what tests/vectors/vectors.py makes of the documents: run it with --write and read the difference" % name)
+                f.write(made)
+        elif open(path).read() != made:
+            print("crates/%s/%s is not what tests/vectors/vectors.py makes of the documents: run it with --write and read the difference" % (program, name))
             good = False
     if sys.argv[1] == "--check":
-        print("vectors: %d lines as the documents have them" % text()[0].count("\n") if good else "vectors: stale")
+        print("vectors: %d lines as the documents have them" % wanted["vectors"][0].count("\n") if good else "vectors: stale")
     sys.exit(0 if good else 1)
 
 

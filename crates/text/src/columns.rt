@@ -17,9 +17,12 @@ impl<'a, W: Write> Columns<'a, W> {
         self.taken
     }
 
-    // Blanks up to a column, if it is not reached, 80 at most.
+    // Blanks up to a column, if it is not reached. As many as lines mostly want are at hand.
     pub fn fill_to(&mut self, column: usize) -> io::Result<()> {
-        let width = column.saturating_sub(self.taken).min(80);
+        let width = column.saturating_sub(self.taken);
+        if 80 < width {
+            return write!(self, "{:width$}", "");
+        }
         self.write_all(&[b' '; 80][..width])
     }
 }

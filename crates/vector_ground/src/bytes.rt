@@ -67,7 +67,19 @@ fn words<W: Write>(line: &mut Line<'_>, out: &mut W) -> io::Result<()> {
 }
 
 // `equal BYTES BYTES`, `zero BYTES`: the tests on whole slices.
-pub(crate) fn answer<W: Write>(text: &[u8], rooms: &mut Rooms, out: &mut W) -> io::Result<bool> {
+pub(crate) fn answer<W: Write>(line: &mut Line<'_>, out: &mut W) -> io::Result<bool> {
+    match line.named(&NAMES) {
+        None => return Ok(false),
+        Some(Asked::Equal) => say::yes(octet::equal(line.bytes(1), line.aside(2)), out)?,
+        Some(Asked::Zero) => say::yes(octet::is_zero(line.bytes(1)), out)?,
+        Some(Asked::ZeroWords) => words(line, out)?,
+        Some(asked) => number(asked, line.bytes(2), line.place(1), out)?,
+    }
+    Ok(true)
+}
+
+// The same in rooms that stay: the second operand stands aside, and a line of another name leaves its operands there too.
+pub(crate) fn answer_in<W: Write>(text: &[u8], rooms: &mut Rooms, out: &mut W) -> io::Result<bool> {
     let mut line = rooms.line(text);
     let asked = line.named(&NAMES);
     if let Some(Asked::ZeroWords) = asked {

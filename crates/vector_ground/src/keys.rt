@@ -3,7 +3,7 @@
 use key::Key;
 use std::cmp::Ordering;
 use std::io::{self, Write};
-use vector_text::line::Rooms;
+use vector_text::line::{Line, Rooms};
 use vector_text::say::{self, Wide};
 
 #[derive(Clone, Copy)]
@@ -27,8 +27,8 @@ const NAMES: [(&str, Asked); 7] = [
     ("closer", Asked::Closer),
 ];
 
-// An operand as it lies in the first 32 bytes of its room, with what lay there before behind it where it has fewer; and as a
-// key, 0 where it has not 32 bytes.
+// An operand as 32 bytes: of a longer one the first, behind a shorter one 0, or in a room that stays what lay there before. And as
+// a key: 0 where it has not 32 bytes.
 #[derive(Clone, Copy)]
 struct Operand {
     bytes: [u8; 32],
@@ -36,7 +36,7 @@ struct Operand {
 }
 
 impl Operand {
-    // Of an operand of so many bytes.
+    // Of an operand of so many bytes, with what is to stand behind it.
     fn of(room: &[u8], len: usize) -> Operand {
         let mut bytes = [0; 32];
         for (byte, laid) in bytes.iter_mut().zip(room.iter()) {
@@ -53,6 +53,11 @@ impl Operand {
             }
         };
         Operand { bytes, key }
+    }
+
+    fn in_line(line: &mut Line<'_>, i: usize) -> Operand {
+        let given = line.peek(i);
+        Operand::of(given, given.len())
     }
 
     fn in_room(text: &[u8], rooms: &mut Rooms, i: usize) -> Operand {
@@ -93,25 +98,43 @@ fn say_key<W: Write>(key: Key, out: &mut W) -> io::Result<()> {
     write!(out, "{key}")
 }
 
-// Of two keys: their order, their differences, whether they are the same, and how they lie. `above OWN KEY`: is the key
-// above our own?
-pub(crate) fn answer<W: Write>(text: &[u8], rooms: &mut Rooms, out: &mut W) -> io::Result<bool> {
-    let x = Operand::in_room(text, rooms, 1);
-    let y = Operand::aside(text, rooms, 2);
-    let Some(asked) = rooms.line(text).named(&NAMES) else {
-        return Ok(false);
-    };
+// What is asked of two keys: their order, their differences, whether they are the same, and how they lie; false where it is asked
+// of three. `above OWN KEY`: is the key above our own?
+fn of_two<W: Write>(asked: Asked, x: &Operand, y: &Operand, out: &mut W) -> io::Result<bool> {
     match asked {
-        Asked::Order => order(&x, &y, out)?,
+        Asked::Order => order(x, y, out)?,
         Asked::Differ => say_key(key::difference(x.key, y.key), out)?,
         Asked::Minus => say_key(key::minus(x.key, y.key), out)?,
         Asked::Far => say_key(ring::how_far(x.key, y.key), out)?,
         Asked::Same => say::yes(key::is_same(x.key, y.key), out)?,
         Asked::Above => say::yes(ring::is_above(&x.bytes, &y.bytes, 0), out)?,
-        Asked::Closer => say::yes(
-            closer(x.key, y.key, Operand::in_room(text, rooms, 3).key),
-            out,
-        )?,
+        Asked::Closer => return Ok(false),
+    }
+    Ok(true)
+}
+
+pub(crate) fn answer<W: Write>(line: &mut Line<'_>, out: &mut W) -> io::Result<bool> {
+    let Some(asked) = line.named(&NAMES) else {
+        return Ok(false);
+    };
+    let x = Operand::in_line(line, 1);
+    let y = Operand::in_line(line, 2);
+    if !of_two(asked, &x, &y, out)? {
+        say::yes(closer(x.key, y.key, Operand::in_line(line, 3).key), out)?;
+    }
+    Ok(true)
+}
+
+// The same in rooms that stay: the second operand stands aside, and a line of another name leaves its operands there too.
+pub(crate) fn answer_in<W: Write>(text: &[u8], rooms: &mut Rooms, out: &mut W) -> io::Result<bool> {
+    let x = Operand::in_room(text, rooms, 1);
+    let y = Operand::aside(text, rooms, 2);
+    let Some(asked) = rooms.line(text).named(&NAMES) else {
+        return Ok(false);
+    };
+    if !of_two(asked, &x, &y, out)? {
+        let third = Operand::in_room(text, rooms, 3);
+        say::yes(closer(x.key, y.key, third.key), out)?;
     }
     Ok(true)
 }

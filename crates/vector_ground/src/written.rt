@@ -105,17 +105,41 @@ fn act(asked: Asked, line: &Line<'_>, s: &mut [u8], src: &[u8]) -> Option<()> {
     }
 }
 
-pub(crate) fn answer<W: Write>(text: &[u8], rooms: &mut Rooms, out: &mut W) -> io::Result<bool> {
-    let mut line = rooms.line(text);
-    let s = line.bytes(3);
-    let src = line.aside(4);
-    let Some(asked) = line.named(&NAMES) else {
-        return Ok(false);
-    };
-    if act(asked, &line, s, src).is_none() {
+// What is left of the bytes `s`; false, and nothing written, where the vector's do not lie within.
+fn left<W: Write>(
+    asked: Asked,
+    line: &Line<'_>,
+    s: &mut [u8],
+    src: &[u8],
+    out: &mut W,
+) -> io::Result<bool> {
+    if act(asked, line, s, src).is_none() {
         return Ok(false);
     }
     let left = Hex(s);
     write!(out, "{left}")?;
     Ok(true)
+}
+
+pub(crate) fn answer<W: Write>(line: &mut Line<'_>, out: &mut W) -> io::Result<bool> {
+    let Some(asked) = line.named(&NAMES) else {
+        return Ok(false);
+    };
+    let s = line.bytes(3);
+    let src: &[u8] = match asked {
+        Asked::Copied | Asked::Insert => line.aside(4),
+        _ => &[],
+    };
+    left(asked, line, s, src, out)
+}
+
+// The same in rooms that stay: the third and the fourth operand are left there as bytes, of a line of another name too.
+pub(crate) fn answer_in<W: Write>(text: &[u8], rooms: &mut Rooms, out: &mut W) -> io::Result<bool> {
+    let mut line = rooms.line(text);
+    let s = line.bytes(3);
+    let src = line.aside(4);
+    match line.named(&NAMES) {
+        Some(asked) => left(asked, &line, s, src, out),
+        None => Ok(false),
+    }
 }

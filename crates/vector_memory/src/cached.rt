@@ -2,7 +2,7 @@
 use crate::searched::searches;
 use neighbours::Spot;
 use std::io::{self, Write};
-use vector_text::line::Rooms;
+use vector_text::line::{Line, Rooms};
 use vector_text::say::{self, Hex, Keys};
 
 #[derive(Clone, Copy)]
@@ -107,32 +107,59 @@ fn search<W: Write>(own: &[u8], cache: &[u8], key: &[u8], out: &mut W) -> io::Re
     write!(out, "{number} {place} {compared}")
 }
 
-pub(crate) fn answer<W: Write>(text: &[u8], rooms: &mut Rooms, out: &mut W) -> io::Result<bool> {
-    let mut line = rooms.line(text);
-    let own: &[u8] = line.bytes(1);
-    let cache = line.aside(2);
-    let third: &[u8] = line.bytes(3);
-    let fourth: &[u8] = line.bytes(4);
-    let Some(asked) = line.named(&NAMES) else {
-        return Ok(false);
-    };
+fn said<W: Write>(
+    asked: Asked,
+    own: &[u8],
+    cache: &mut [u8],
+    third: &[u8],
+    fourth: &[u8],
+    out: &mut W,
+) -> io::Result<()> {
     match asked {
         Asked::Form => match held(own, cache) {
-            Some(count) => write!(out, "{count}")?,
-            None => say::bad(out)?,
+            Some(count) => write!(out, "{count}"),
+            None => say::bad(out),
         },
         Asked::Learn => {
             let done = cache::learn_record(own, cache, third);
-            changed(done, own, cache, out)?;
+            changed(done, own, cache, out)
         }
         Asked::Remove => {
             let done = cache::remove_key(own, cache, third);
-            changed(done, own, cache, out)?;
+            changed(done, own, cache, out)
         }
-        Asked::Neighbours => neighbours(own, cache, third, out)?,
-        Asked::Closest => closest(own, cache, third, fourth, out)?,
-        Asked::Searches => searches(own, cache, out)?,
-        Asked::Search => search(own, cache, third, out)?,
+        Asked::Neighbours => neighbours(own, cache, third, out),
+        Asked::Closest => closest(own, cache, third, fourth, out),
+        Asked::Searches => searches(own, cache, out),
+        Asked::Search => search(own, cache, third, out),
     }
+}
+
+pub(crate) fn answer<W: Write>(line: &mut Line<'_>, out: &mut W) -> io::Result<bool> {
+    let Some(asked) = line.named(&NAMES) else {
+        return Ok(false);
+    };
+    let own = line.bytes(1);
+    let cache = line.aside(2);
+    let third = line.bytes(3);
+    let fourth: &[u8] = match asked {
+        Asked::Closest => line.bytes(4),
+        _ => &[],
+    };
+    said(asked, own, cache, third, fourth, out)?;
+    Ok(true)
+}
+
+// The same in rooms that stay: all four operands are left there, of a line of another name too.
+pub(crate) fn answer_in<W: Write>(text: &[u8], rooms: &mut Rooms, out: &mut W) -> io::Result<bool> {
+    let mut line = rooms.line(text);
+    let own = line.bytes(1);
+    let cache = line.aside(2);
+    let third = line.bytes(3);
+    let fourth = line.bytes(4);
+    let Some(asked) = line.named(&NAMES) else {
+        return Ok(false);
+    };
+    said(asked, own, cache, third, fourth, out)?;
     Ok(true)
 }

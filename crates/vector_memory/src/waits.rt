@@ -1,6 +1,6 @@
 // Vectors of the waiting table.
 use std::io::{self, Write};
-use vector_text::line::Rooms;
+use vector_text::line::Line;
 use vector_text::say;
 
 #[derive(Clone, Copy)]
@@ -51,13 +51,12 @@ fn tick<W: Write>(own: &[u8], table: &mut [u8], out: &mut W) -> io::Result<()> {
     out.write_all(b" ")
 }
 
-pub(crate) fn answer<W: Write>(text: &[u8], rooms: &mut Rooms, out: &mut W) -> io::Result<bool> {
-    let mut line = rooms.line(text);
-    let own: &[u8] = line.bytes(1);
-    let table = line.aside(2);
+pub(crate) fn answer<W: Write>(line: &mut Line<'_>, out: &mut W) -> io::Result<bool> {
     let Some(asked) = line.named(&NAMES) else {
         return Ok(false);
     };
+    let own: &[u8] = line.bytes(1);
+    let table = line.aside(2);
     match asked {
         Asked::Form => form(own, table, out)?,
         Asked::Ticks => {

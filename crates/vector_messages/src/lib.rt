@@ -1,8 +1,8 @@
-// Vectors of messages: datagrams read, each prefix of them too, and written again. Used by the program `vectors` alone.
+// Vectors of messages: datagrams read, each prefix of them too, and written again. Used by the programs `vectors` and `vector_rooms`.
 #![tactic(auto)]
 
 use std::io::{self, Write};
-use vector_text::line::Rooms;
+use vector_text::line::{Line, Rooms};
 use vector_text::say::Hex;
 use wire_read::{Head, Incoming};
 
@@ -77,17 +77,26 @@ fn again<W: Write>(d: &[u8], major: u8, out: &mut W) -> io::Result<()> {
 }
 
 // The group of vectors that has the line's name answers; false where none has.
-pub fn answer<W: Write>(text: &[u8], rooms: &mut Rooms, out: &mut W) -> io::Result<bool> {
-    let mut line = rooms.line(text);
-    let major = line.byte(1);
-    let d = line.bytes(2);
+pub fn answer<W: Write>(line: &mut Line<'_>, out: &mut W) -> io::Result<bool> {
     let Some(asked) = line.named(&NAMES) else {
         return Ok(false);
     };
+    let major = line.byte(1);
+    let d = line.bytes(2);
     match asked {
         Asked::Read => read(d, major, out)?,
         Asked::Again => again(d, major, out)?,
         Asked::Prefixes => prefixes(d, major, out)?,
     }
     Ok(true)
+}
+
+// The same in rooms that stay: a line of another name leaves its second operand there too, which the next line may see.
+pub fn answer_in<W: Write>(text: &[u8], rooms: &mut Rooms, out: &mut W) -> io::Result<bool> {
+    let mut line = rooms.line(text);
+    let answered = answer(&mut line, out)?;
+    if !answered {
+        line.bytes(2);
+    }
+    Ok(answered)
 }

@@ -107,6 +107,14 @@ impl<'a> Line<'a> {
     pub fn keep<const N: usize>(&self, i: usize, kept: &mut Kept<N>) {
         kept.len = put(self.operand(i), &mut kept.room);
     }
+
+    // The bytes of an operand, where those of the next one will stand too.
+    pub fn peek(&mut self, i: usize) -> &[u8] {
+        let room = mem::take(&mut self.room);
+        let len = put(self.operand(i), room);
+        self.room = room;
+        &self.room[..len]
+    }
 }
 
 // Bytes that are kept from line to line, N at most.

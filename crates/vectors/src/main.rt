@@ -38,10 +38,10 @@ fn answer<W: Write>(
     lent: &mut Lent,
     out: &mut W,
 ) -> io::Result<()> {
-    let answered = vector_ground::answer(text, rooms, out)?
-        || vector_messages::answer(text, rooms, out)?
-        || vector_memory::answer(text, rooms, out)?
-        || vector_changes::answer(text, rooms, out)?
+    let answered = vector_ground::answer_in(text, rooms, out)?
+        || vector_messages::answer_in(text, rooms, out)?
+        || vector_memory::answer_in(text, rooms, out)?
+        || vector_changes::answer_in(text, rooms, out)?
         || vector_lent::answer(&rooms.line(text), lent, out)?
         || vector_calls::answer(&rooms.line(text), lent, out)?;
     if answered {
